@@ -1,0 +1,107 @@
+use mathlib.Core.Path.{_≡_, refl, sym, ap, _∙_}
+use Prim.Native.Nat.{_<_}
+use native.Mathlib.Omega.{arith}
+use denote.Ref.{now}
+use lib.ListN.{take}
+use Rattle.definition.specs.Steps.{_>>_}
+use Rattle.slots.specs.Order.{place}
+use Rattle.slots.specs.OrderLaws.{place-front}
+use Rattle.slots.specs.Done.{lay}
+use Rattle.slots.specs.Slots.{createPendingConnection}
+use Rattle.slots.specs.Parts.{created-pool}
+use borrow.Author.Needs.{needs}
+use Rattle.acts.proofs.create_pending_connection.Statement.{statement}
+use Rattle.acts.proofs.create_pending_connection.Tie as tie
+use Rattle.acts.proofs.create_pending_connection.Reads as reads
+use Rattle.acts.proofs.create_pending_connection.Lts as lts
+use Rattle.acts.proofs.long.Reads as long-reads
+use Rattle.table.proofs.emit.Reads as emit-reads
+use Rattle.table.proofs.find.Reads as find-reads
+
+-- the first vacant slot, and that there is one
+found : (c : tie.After-find) → c .find .result ≡ place 0 64 (take 64 (now (c .before .before .before .args .cells)))
+found c = c .find .ensures ∙ sym (place-front _ 0 64 64 _ (omega arith))
+
+low : (c : tie.After-find) → c .find .result < 64
+low c = omega (arith, found c, c .before .before .before .pre .1 .spot)
+
+find-requires : tie.Need-find-requires
+find-requires c κs = search needs
+
+long-requires : tie.Need-long-requires
+long-requires c κs = search needs
+
+emit-requires : tie.Need-emit-requires
+emit-requires c κs = search needs
+
+mul-cells : tie.Need-mul-cells
+mul-cells c = omega (arith, low (c .before .before .before .before .before .before))
+
+element-write-cells : tie.Need-element-write-cells
+element-write-cells c = omega (arith, low (c .before .before .before .before .before .before))
+
+add-cells : tie.Need-add-cells
+add-cells c = omega (arith, low (c .before .before .before .before .before .before))
+
+mul-cells-2 : tie.Need-mul-cells-2
+mul-cells-2 c = omega (arith, low (c .before .before .before .before .before .before))
+
+element-write-cells-2 : tie.Need-element-write-cells-2
+element-write-cells-2 c = omega (arith, low (c .before .before .before .before .before .before))
+
+mul-times : tie.Need-mul-times
+mul-times c = omega (arith, low (c .before .before .before .before .before .before))
+
+element-write-times : tie.Need-element-write-times
+element-write-times c = low (c .before .before .before .before .before .before)
+
+element-write-seats : tie.Need-element-write-seats
+element-write-seats c = omega (arith, low (c .before .before .before .before .before .before))
+
+add-h : tie.Need-add-h
+add-h c = search needs
+
+add-h-2 : tie.Need-add-h-2
+add-h-2 c = search needs
+
+add-h-3 : tie.Need-add-h-3
+add-h-3 c = search needs
+
+add-t28 : tie.Need-add-t28
+add-t28 c = search needs
+
+same-length : tie.Need-same-length
+same-length c = search needs
+
+returns : tie.Need-returns
+unfolding createPendingConnection lay _>>_
+returns c =
+    let a = c .before .before .before .before .before .before .before .before .before .before .before .args in
+    let h = a .head in
+    record {
+      pool = created-pool _ (now (a .cells)) (now (a .times)) (now (a .seats)) (now (a .waiters)) (c .before .before .before .before .before .before .before .before .find .result) (h .«next_connection_id») (h .mode .generation) (h .clock) (a .state) (found (c .before .before .before .before .before .before .before .before)) (low (c .before .before .before .before .before .before .before .before));
+      count = refl;
+      out = rw (← c .before .before .before .before .before .before .long .ensures) (c .before .before .before .before .before .emit .ensures);
+    }
+
+pub create-pending-connection-spec : {M : Type 1} → statement M
+create-pending-connection-spec =
+    tie.close
+    (tie.spec
+    find-requires
+    long-requires
+    emit-requires
+    mul-cells
+    element-write-cells
+    add-cells
+    mul-cells-2
+    element-write-cells-2
+    mul-times
+    element-write-times
+    element-write-seats
+    add-h
+    add-h-2
+    add-h-3
+    add-t28
+    same-length
+    returns)

@@ -1,0 +1,14 @@
+pub mod Types
+pub mod Words
+pub mod Events
+pub mod Pool
+pub mod Records
+pub mod Steps
+pub mod Refusals
+pub mod Bytes
+pub mod Day
+pub mod HexLaws
+pub mod RoundTrip
+pub mod Cases
+pub mod Log
+pub mod Sentences

@@ -1,0 +1,190 @@
+-- What a pool is: its options, its connections in three lists, its queue, and the numbers that it goes on from.
+use mathlib.Core.Bool.{Bool, true, false, not, _&&_, _||_}
+use mathlib.Core.List.{List, [], _∷_}
+use Prim.Native.Nat.{ℕ, _+_, _-_}
+use lib.ListN.{length}
+use Rattle.definition.specs.Words.{if_then_else_, _<?_, _≤?_, _=?_, any?}
+use Rattle.definition.specs.Types.{Options, PoolState, New, Paused, Ready, Closed, PinnedState, InUse, Returned, Purpose, Request, Background, ConnectionState, Vacant, CheckedIn, CheckedOut, Pinned, Pending}
+
+-- ── Options ────────────────────────────────────────────────────────────────────────────────────────────────────────────
+
+-- the most connections that a pool may be given, and pending ones; the queue's length
+abbrev pub most : ℕ
+most = 64
+
+abbrev pub queueLength : ℕ
+queueLength = 256
+
+abbrev pub defaultMaxPoolSize : ℕ
+defaultMaxPoolSize = 10
+
+abbrev pub defaultMaxConnecting : ℕ
+defaultMaxConnecting = 2
+
+abbrev pub orDefault : ℕ → ℕ → ℕ
+orDefault default n = if n =? 0 then default else n
+
+-- a 0 takes the default; that of the minimum is 0, and an idle limit of 0 means never
+abbrev pub withDefaults : Options → Options
+withDefaults o = record {
+  maximum = orDefault defaultMaxPoolSize (o .maximum);
+  minimum = o .minimum;
+  connecting = orDefault defaultMaxConnecting (o .connecting);
+  idle = o .idle;
+}
+
+-- maximum 1 to 64, minimum 0 to maximum, max connecting 1 to 64
+unfoldable pub inRange : Options → Bool
+inRange o =
+    1 ≤? o .maximum && o .maximum ≤? most && o .minimum ≤? o .maximum && 1 ≤? o .connecting && o .connecting ≤? most
+
+-- ── Connections and waiters ────────────────────────────────────────────────────────────────────────────────────────────
+
+-- `time` is, for an available one, since when it is available; for any other, the last accepted event that named, created or lent it
+pub record Conn : Type 0 where
+  pub id : ℕ
+  pub generation : ℕ
+  pub time : ℕ
+  pub state : ConnectionState
+
+pub record Waiter : Type 0 where
+  pub id : ℕ
+  pub warm : Bool
+  pub abandoned : Bool
+
+-- ── The pool ───────────────────────────────────────────────────────────────────────────────────────────────────────────
+
+-- `available` and `waiting` stand front to back; `written` counts every record since the pool was made
+pub record Pool : Type 0 where
+  pub options : Options
+  pub state : PoolState
+  pub generation : ℕ
+  pub nextId : ℕ
+  pub clock : ℕ
+  pub lastRequest : ℕ
+  pub written : ℕ
+  pub available : List Conn
+  pub lent : List Conn
+  pub pending : List Conn
+  pub waiting : List Waiter
+
+abbrev pub fresh : Options → Pool
+fresh o = record { options = o; state = New; generation = 0; nextId = 1; clock = 0; lastRequest = 0; written = 0; available = []; lent = []; pending = []; waiting = [] }
+
+-- the pool with another value in one place
+module _ (p : Pool) where
+  abbrev pub withMode : PoolState → ℕ → Pool
+  withMode s g = record { options = p .options; state = s; generation = g; nextId = p .nextId; clock = p .clock; lastRequest = p .lastRequest; written = p .written; available = p .available; lent = p .lent; pending = p .pending; waiting = p .waiting }
+
+  abbrev pub withNextId : ℕ → Pool
+  withNextId n = record { options = p .options; state = p .state; generation = p .generation; nextId = n; clock = p .clock; lastRequest = p .lastRequest; written = p .written; available = p .available; lent = p .lent; pending = p .pending; waiting = p .waiting }
+
+  abbrev pub withClock : ℕ → Pool
+  withClock t = record { options = p .options; state = p .state; generation = p .generation; nextId = p .nextId; clock = t; lastRequest = p .lastRequest; written = p .written; available = p .available; lent = p .lent; pending = p .pending; waiting = p .waiting }
+
+  abbrev pub withLastRequest : ℕ → Pool
+  withLastRequest r = record { options = p .options; state = p .state; generation = p .generation; nextId = p .nextId; clock = p .clock; lastRequest = r; written = p .written; available = p .available; lent = p .lent; pending = p .pending; waiting = p .waiting }
+
+  abbrev pub withWritten : ℕ → Pool
+  withWritten n = record { options = p .options; state = p .state; generation = p .generation; nextId = p .nextId; clock = p .clock; lastRequest = p .lastRequest; written = n; available = p .available; lent = p .lent; pending = p .pending; waiting = p .waiting }
+
+  abbrev pub withAvailable : List Conn → Pool
+  withAvailable l = record { options = p .options; state = p .state; generation = p .generation; nextId = p .nextId; clock = p .clock; lastRequest = p .lastRequest; written = p .written; available = l; lent = p .lent; pending = p .pending; waiting = p .waiting }
+
+  abbrev pub withLent : List Conn → Pool
+  withLent l = record { options = p .options; state = p .state; generation = p .generation; nextId = p .nextId; clock = p .clock; lastRequest = p .lastRequest; written = p .written; available = p .available; lent = l; pending = p .pending; waiting = p .waiting }
+
+  abbrev pub withPending : List Conn → Pool
+  withPending l = record { options = p .options; state = p .state; generation = p .generation; nextId = p .nextId; clock = p .clock; lastRequest = p .lastRequest; written = p .written; available = p .available; lent = p .lent; pending = l; waiting = p .waiting }
+
+  abbrev pub withWaiting : List Waiter → Pool
+  withWaiting l = record { options = p .options; state = p .state; generation = p .generation; nextId = p .nextId; clock = p .clock; lastRequest = p .lastRequest; written = p .written; available = p .available; lent = p .lent; pending = p .pending; waiting = l }
+
+-- ── Tests ──────────────────────────────────────────────────────────────────────────────────────────────────────────────
+
+abbrev pub isReady : PoolState → Bool
+isReady New = false
+isReady (Paused cause) = false
+isReady Ready = true
+isReady Closed = false
+
+abbrev pub isClosed : PoolState → Bool
+isClosed New = false
+isClosed (Paused cause) = false
+isClosed Ready = false
+isClosed Closed = true
+
+abbrev pub total : Pool → ℕ
+total p = length (p .available) + length (p .lent) + length (p .pending)
+
+-- stale: its generation differs from the pool's
+abbrev pub staleIn : (generation : ℕ) → (of : ℕ) → Bool
+staleIn generation of = not (of =? generation)
+
+-- idle: the limit isn't 0, and the elapsed time is at least the limit
+abbrev pub idleFor : (limit since now : ℕ) → Bool
+idleFor limit since now = 0 <? limit && limit ≤? now - since
+
+module _ (p : Pool) (c : Conn) where
+  abbrev pub stale : Bool
+  stale = staleIn (p .generation) (c .generation)
+
+  abbrev pub idle : Bool
+  idle = idleFor (p .options .idle) (c .time) (p .clock)
+
+  abbrev pub perished : Bool
+  perished = stale || idle
+
+-- ── Connections by number ──────────────────────────────────────────────────────────────────────────────────────────────
+
+abbrev pub has : ℕ → List Conn → Bool
+has n = any? (λ c. c .id =? n)
+
+-- the one of that number; where there is none, a blank one
+abbrev pub find : ℕ → List Conn → Conn
+find n [] = record { id = n; generation = 0; time = 0; state = Vacant }
+find n (c ∷ cs) = if c .id =? n then c else find n cs
+
+-- there is one of that number, in such a state
+abbrev pub hasIn : (ConnectionState → Bool) → ℕ → List Conn → Bool
+hasIn such n l = has n l && such (find n l .state)
+
+-- the list without it
+abbrev pub without : ℕ → List Conn → List Conn
+without n [] = []
+without n (c ∷ cs) = if c .id =? n then cs else c ∷ without n cs
+
+-- the connection in another state, since the time given
+abbrev pub turned : ConnectionState → ℕ → Conn → Conn
+turned s t c = record { id = c .id; generation = c .generation; time = t; state = s }
+
+-- the list with that one turned
+abbrev pub turn : ConnectionState → ℕ → ℕ → List Conn → List Conn
+turn s t n [] = []
+turn s t n (c ∷ cs) = if c .id =? n then turned s t c ∷ cs else c ∷ turn s t n cs
+
+-- the states by number, to tell them apart
+abbrev pub stateNo : ConnectionState → ℕ
+stateNo Vacant = 0
+stateNo CheckedIn = 1
+stateNo CheckedOut = 2
+stateNo (Pinned InUse) = 3
+stateNo (Pinned Returned) = 4
+stateNo (Pending Request) = 5
+stateNo (Pending Background) = 6
+
+-- lent and unpinned; pinned and in use; pinned, in use or returned; pending for a request; pending in background
+abbrev pub unpinned : ConnectionState → Bool
+unpinned s = stateNo s =? 2
+
+abbrev pub pinnedInUse : ConnectionState → Bool
+pinnedInUse s = stateNo s =? 3
+
+abbrev pub pinned : ConnectionState → Bool
+pinned s = stateNo s =? 3 || stateNo s =? 4
+
+abbrev pub forRequest : ConnectionState → Bool
+forRequest s = stateNo s =? 5
+
+abbrev pub inBackground : ConnectionState → Bool
+inBackground s = stateNo s =? 6

@@ -1,0 +1,249 @@
+-- What each event does to a pool, and the service stage that follows it.
+use mathlib.Core.Bool.{Bool, true, false, not, _&&_, _||_}
+use mathlib.Core.List.{List, [], _∷_, _++_, map, reverse}
+use Prim.Native.Nat.{ℕ, zero, suc, _+_, _-_, min}
+use lib.ListN.{length}
+use Rattle.definition.specs.Words.{if_then_else_, _<?_, _≤?_, _=?_, _∷ʳ_, some?}
+use Rattle.definition.specs.Pool.{Pool, Conn, Waiter, isReady, isClosed, total, stale, perished, find, without, turned, turn, withMode, withNextId, withLastRequest, withAvailable, withLent, withPending, withWaiting}
+use Rattle.definition.specs.Records.{Record, ConnectionCreated, ConnectionReady, ConnectionCheckedIn, ConnectionClosed, PoolReady, PoolCleared, PoolShut, Interrupt, Replied, Reply, Pooled, Establishing, Warmed, Cleared, Gone, told}
+use Rattle.definition.specs.Events.{partsOf}
+use Rattle.definition.specs.Types.{Event, CheckOut, WarmPool, Abandon, CheckIn, Clear, MarkAsReady, Succeeded, SucceededForPool, Failed, Maintenance, FillPool, Pin, ReturnToPinner, TakeFromPinner, Close, PoolState, New, Paused, Ready, Closed, InUse, Returned, Purpose, Request, Background, ConnectionState, CheckedIn, CheckedOut, Pinned, Pending, ClosedReason, Idle, Stale, Error, Dropped, PoolClosed}
+
+-- ── Acts: a pool gives a new pool and records, and one act follows another ─────────────────────────────────────────────
+
+pub record Out (P : Type 0) : Type 0 where
+  pub pool : P
+  pub records : List Record
+
+abbrev pub Act : Type 0 → Type 0
+Act P = P → Out P
+
+module _ {P : Type 0} where
+  abbrev pub nothing : Act P
+  nothing p = record { pool = p; records = [] }
+
+  abbrev pub emitAll : List Record → Act P
+  emitAll rs p = record { pool = p; records = rs }
+
+  abbrev pub emit : Record → Act P
+  emit r p = record { pool = p; records = r ∷ [] }
+
+  abbrev pub become : P → Act P
+  become q p = record { pool = q; records = [] }
+
+  infixr 10 _>>_
+  unfoldable pub _>>_ : Act P → Act P → Act P
+  (a >> b) p = record { pool = b (a p .pool) .pool; records = a p .records ++ b (a p .pool) .records }
+
+-- ── Parts of the steps ─────────────────────────────────────────────────────────────────────────────────────────────────
+
+unfoldable pub leaveLent : ℕ → Act Pool
+leaveLent n p = become (withLent p (without n (p .lent))) p
+
+unfoldable pub leavePending : ℕ → Act Pool
+leavePending n p = become (withPending p (without n (p .pending))) p
+
+-- a connection that has left its list is closed
+abbrev pub close : ClosedReason → ℕ → Act Pool
+close reason n = emit (ConnectionClosed reason n)
+
+-- to the back of the available list, available since the time given
+unfoldable pub shelve : Conn → ℕ → Act Pool
+shelve c t p = become (withAvailable p (p .available ∷ʳ turned CheckedIn t c)) p
+
+-- lent, now
+unfoldable pub lendOut : Conn → Act Pool
+lendOut c p = become (withLent p (p .lent ∷ʳ turned CheckedOut (p .clock) c)) p
+
+-- creation takes the next id and the current generation
+unfoldable pub createPendingConnection : Purpose → Act Pool
+createPendingConnection why p =
+    (do
+      emit (ConnectionCreated (p .nextId))
+      become (withNextId (withPending p (p .pending ∷ʳ record { id = p .nextId; generation = p .generation; time = p .clock; state = Pending why })) (p .nextId + 1))
+    ) p
+
+unfoldable pub createMany : ℕ → Act Pool
+createMany zero p = nothing p
+createMany (suc n) p = (createPendingConnection Background >> createMany n) p
+
+-- an available connection that has perished is closed as stale, else as idle
+unfoldable pub closePerished : Conn → Act Pool
+closePerished c p = close (if stale p c then Stale else Idle) (c .id) p
+
+-- every waiter, front to back
+unfoldable pub tellAll : Reply → Act Pool
+tellAll r p = (emitAll (map (told r) (p .waiting)) >> become (withWaiting p [])) p
+
+unfoldable pub mode : PoolState → ℕ → Act Pool
+mode s generation p = become (withMode p s generation) p
+
+-- ── The steps ──────────────────────────────────────────────────────────────────────────────────────────────────────────
+
+-- Check-out, warm: if Ready, to the queue's back. If Paused, reply 19 with the pausing cause; if New, reply 19 with other 0.
+unfoldable pub queue : ℕ → Bool → PoolState → Act Pool
+queue n warm New p = emit (Replied n (Cleared 0)) p
+queue n warm (Paused cause) p = emit (Replied n (Cleared cause)) p
+queue n warm Ready p = become (withWaiting p (p .waiting ∷ʳ record { id = n; warm = warm; abandoned = false })) p
+queue n warm Closed p = nothing p
+
+unfoldable pub request : ℕ → Bool → Act Pool
+request n warm p = (become (withLastRequest p n) >> queue n warm (p .state)) p
+
+-- Abandon marks a waiter.
+unfoldable pub abandon : ℕ → Act Pool
+abandon n p = become (withWaiting p (map (λ w. record { id = w .id; warm = w .warm; abandoned = w .abandoned || w .id =? n }) (p .waiting))) p
+
+-- Check-in: record 3, then errored closes with 3, else stale with 2, else executing with 4, else to the back of the available
+-- list, available since it was let go. Of a closed pool only closed 5, whatever the flags.
+unfoldable pub checkIn : ℕ → (errored executing : Bool) → (letGo : ℕ) → Act Pool
+checkIn n errored executing letGo p =
+    let c = find n (p .lent) in
+    (do
+      leaveLent n
+      if isClosed (p .state) then close PoolClosed n else do
+        emit (ConnectionCheckedIn n)
+        if errored then close Error n else
+            if stale p c then close Stale n else
+            if executing then close Dropped n else
+            shelve c letGo
+    ) p
+
+-- Clear: on timeout record 8 first, whatever the state. Generation plus 1, state Paused with the new cause. Only if it was
+-- Ready: record 6, then every waiter front to back gets 19, an abandoned one 21 in its place.
+unfoldable pub clear : (timeout : Bool) → (cause : ℕ) → Act Pool
+clear timeout cause p =
+    let generation = p .generation + 1 in
+    (do
+      if timeout then emit (Interrupt (length (p .lent))) else nothing
+      if isReady (p .state) then emit (PoolCleared timeout cause generation) >> tellAll (Cleared cause) else nothing
+      mode (Paused cause) generation
+    ) p
+
+-- Ready: record 5 if it wasn't Ready, else nothing.
+unfoldable pub markAsReady : Act Pool
+markAsReady p = (if isReady (p .state) then nothing else (emit PoolReady >> mode Ready (p .generation))) p
+
+-- 7: record 2, pending becomes lent.
+unfoldable pub succeeded : ℕ → Act Pool
+succeeded n p = (emit (ConnectionReady n) >> leavePending n >> lendOut (find n (p .pending))) p
+
+-- 8: record 2, to the back of the available list with the opened time, even if stale. Of a closed pool record 2, then closed 5.
+unfoldable pub succeededForPool : ℕ → (opened : ℕ) → Act Pool
+succeededForPool n opened p =
+    (do
+      emit (ConnectionReady n)
+      leavePending n
+      if isClosed (p .state) then close PoolClosed n else shelve (find n (p .pending)) opened
+    ) p
+
+-- 9: closed with 3.
+unfoldable pub failed : ℕ → Act Pool
+failed n = leavePending n >> close Error n
+
+-- Maintenance: close from the available front, stale then idle, stopping at the first healthy one;
+unfoldable pub removePerished : (available : List Conn) → Act Pool
+removePerished [] p = nothing p
+removePerished (c ∷ cs) p =
+    (if perished p c then (become (withAvailable p cs) >> closePerished c >> removePerished cs) else nothing) p
+
+-- then if Ready create background connections while total is below the minimum and pending below max connecting.
+unfoldable pub ensureMinConnections : Act Pool
+ensureMinConnections p =
+    (if isReady (p .state)
+    then createMany (min (p .options .minimum - total p) (p .options .connecting - length (p .pending)))
+    else nothing
+    ) p
+
+unfoldable pub maintenance : Act Pool
+maintenance p = (removePerished (p .available) >> ensureMinConnections) p
+
+-- Pin, return, take change only that connection.
+unfoldable pub repin : ConnectionState → ℕ → Act Pool
+repin s n p = become (withLent p (turn s (p .clock) n (p .lent))) p
+
+-- Close: available ones front to back closed with 5, waiters front to back get 20, abandoned ones 21, then record 7.
+unfoldable pub shut : Act Pool
+shut p =
+    (do
+      become (withAvailable p [])
+      emitAll (map (λ c. ConnectionClosed PoolClosed (c .id)) (p .available))
+      tellAll Gone
+      emit PoolShut
+      mode Closed (p .generation)
+    ) p
+
+-- what the event itself does; the clock is the event's. Fill does nothing of its own.
+unfoldable pub own : Event → Act Pool
+own (CheckOut n) = request n false
+own (WarmPool n) = request n true
+own (Abandon n) = abandon n
+own (CheckIn n errored executing letGo) = checkIn n errored executing letGo
+own (Clear timeout cause) = clear timeout cause
+own MarkAsReady = markAsReady
+own (Succeeded n) = succeeded n
+own (SucceededForPool n opened) = succeededForPool n opened
+own (Failed n) = failed n
+own Maintenance = maintenance
+own FillPool = nothing
+own (Pin n) = repin (Pinned InUse) n
+own (ReturnToPinner n) = repin (Pinned Returned) n
+own (TakeFromPinner n) = repin (Pinned InUse) n
+own Close = shut
+
+-- ── The service stage ──────────────────────────────────────────────────────────────────────────────────────────────────
+
+-- Ready, and an available connection exists, or total is below maximum and pending below max connecting
+unfoldable pub canService : Pool → Bool
+canService p =
+    isReady (p .state) && (some? (p .available) || total p <? p .options .maximum && length (p .pending) <? p .options .connecting)
+
+-- Create, then 17. The Rust tests the maximum here; there is always room below it (crate promises, Bound), so no test is left.
+unfoldable pub establish : Waiter → Act Pool
+establish w p = (createPendingConnection Request >> emit (told (Establishing (p .nextId)) w)) p
+
+-- a healthy one: 16; for an abandoned waiter it goes back to the available back with time now
+unfoldable pub lend : Waiter → Conn → Act Pool
+lend w c p = (emit (told (Pooled (c .id)) w) >> (if w .abandoned then shelve c (p .clock) else lendOut c)) p
+
+-- Ordinary: take from the available back, closing stale or idle ones, until a healthy one. Otherwise create.
+unfoldable pub takeAvailable : Waiter → (backToFront : List Conn) → Act Pool
+takeAvailable w [] p = establish w p
+takeAvailable w (c ∷ cs) p =
+    (do
+      become (withAvailable p (reverse cs))
+      if perished p c then closePerished c >> takeAvailable w cs else lend w c
+    ) p
+
+-- Warm with total at or above minimum: 18.
+unfoldable pub checkOut : Waiter → Act Pool
+checkOut w p =
+    (if w .warm
+    then (if p .options .minimum ≤? total p then emit (told Warmed w) else establish w)
+    else takeAvailable w (reverse (p .available))
+    ) p
+
+-- the front waiter is taken
+unfoldable pub serveFront : List Waiter → Act Pool
+serveFront [] p = nothing p
+serveFront (w ∷ ws) p = (become (withWaiting p ws) >> checkOut w) p
+
+-- once
+unfoldable pub service : Act Pool
+service p = (if canService p then serveFront (p .waiting) else nothing) p
+
+-- ── One event ──────────────────────────────────────────────────────────────────────────────────────────────────────────
+
+abbrev pub kindNo : Event → ℕ
+kindNo e = partsOf e .kind
+
+infix 40 _to_holds_
+abbrev pub _to_holds_ : ℕ → ℕ → ℕ → Bool
+a to b holds k = a ≤? k && k ≤? b
+
+-- kinds 1, 2 and 4 to 11; that the pool is open is canService's to say
+abbrev pub serviced : Event → Bool
+serviced e = 1 to 2 holds kindNo e || 4 to 11 holds kindNo e
+
+unfoldable pub event : Event → Act Pool
+event e = own e >> (if serviced e then service else nothing)

@@ -1,0 +1,190 @@
+-- How many records there are: a service stage closes no more than were available, and an event writes 512 at most.
+use mathlib.Core.Path.{_≡_, refl}
+use mathlib.Core.Bool.{Bool, true, false}
+use mathlib.Core.List.{List, [], _∷_, reverse}
+use Prim.Native.Nat.{ℕ, zero, suc, _+_, _-_, _*_, _≤_, min}
+use lib.ListN.{length, length-append, length-map, length-reverse}
+use native.Mathlib.Omega.{arith}
+use Rattle.definition.specs.Words.{if_then_else_}
+use Rattle.definition.specs.Pool.{Pool, Conn, Waiter, isReady, total, most, withClock, withLastRequest, withWaiting, withAvailable}
+use Rattle.definition.specs.Records.{Record, PoolCleared, Reply, Cleared, told}
+use Rattle.definition.specs.Steps.{Out, Act, _>>_, nothing, emit, become, leaveLent, leavePending, shelve, lendOut, createPendingConnection, createMany, closePerished, tellAll, mode, queue, request, abandon, checkIn, clear, markAsReady, succeeded, succeededForPool, failed, removePerished, ensureMinConnections, maintenance, repin, shut, own, establish, lend, takeAvailable, checkOut, serveFront, service, serviced, event}
+use Rattle.definition.specs.Refusals.{Result, after}
+use Rattle.definition.specs.declared.Event.{Event}
+use Rattle.definition.specs.declared.Event.the-variants.{CheckOut, WarmPool, Abandon, CheckIn, Clear, MarkAsReady, Succeeded, SucceededForPool, Failed, Maintenance, FillPool, Pin, ReturnToPinner, TakeFromPinner, Close}
+use Rattle.definition.specs.declared.Frame.{Frame}
+use Rattle.definition.specs.declared.PoolState.{PoolState}
+use Rattle.definition.specs.declared.PoolState.the-variants.{New, Paused, Ready, Closed}
+use Rattle.definition.specs.declared.Purpose.the-variants.{Background}
+use Rattle.definition.specs.Log.{closed}
+use Rattle.definition.specs.Sentences.{if-both}
+use Rattle.promises.specs.Calls.{Named, Stepped, no-step, a-step, passed-named}
+use Rattle.promises.specs.Kept.{removePerished-keeps}
+use Rattle.promises.specs.Bound.{Reached, own-fits}
+
+-- ── Closed by a service stage ──────────────────────────────────────────────────────────────────────────────────────────
+
+lend-closes : (w : Waiter) (c : Conn) (p : Pool) → closed (lend w c p .records) ≡ []
+unfolding lend told shelve lendOut _>>_
+lend-closes w c p = if-both (λ (a : Act Pool). closed (a p .records) ≡ []) (λ _. refl) (λ _. refl)
+
+takeAvailable-closes : (w : Waiter) (l : List Conn) (p : Pool) → length (closed (takeAvailable w l p .records)) ≤ length l
+unfolding takeAvailable establish createPendingConnection closePerished told _>>_
+takeAvailable-closes w [] p = omega arith
+takeAvailable-closes w (c ∷ cs) p =
+    let q = withAvailable p (reverse cs) in
+    if-both (λ (a : Act Pool). length (closed (a q .records)) ≤ suc (length cs))
+    (λ _. omega (arith, takeAvailable-closes w cs q))
+    (λ _. rw (lend-closes w c q) (omega arith))
+
+checkOut-closes : (w : Waiter) (p : Pool) → length (closed (checkOut w p .records)) ≤ length (p .available)
+unfolding checkOut establish createPendingConnection told _>>_
+checkOut-closes w p =
+    if-both (λ (a : Act Pool). length (closed (a p .records)) ≤ length (p .available))
+    (λ _. if-both (λ (a : Act Pool). length (closed (a p .records)) ≤ length (p .available)) (λ _. omega arith) (λ _. omega arith))
+    (λ _. rw length-reverse at (takeAvailable-closes w (reverse (p .available)) p))
+
+serveFront-closes : (l : List Waiter) (p : Pool) → length (closed (serveFront l p .records)) ≤ length (p .available)
+unfolding serveFront _>>_
+serveFront-closes [] p = omega arith
+serveFront-closes (w ∷ l) p = checkOut-closes w (withWaiting p l)
+
+pub service-closes : (p : Pool) → length (closed (service p .records)) ≤ length (p .available)
+unfolding service
+service-closes p = if-both (λ (a : Act Pool). length (closed (a p .records)) ≤ length (p .available)) (λ _. serveFront-closes (p .waiting) p) (λ _. omega arith)
+
+-- ── Written by any event ───────────────────────────────────────────────────────────────────────────────────────────────
+
+abbrev Few : ℕ → Out Pool → Type 0
+Few k o = length (o .records) ≤ k
+
+few-then : (j k : ℕ) (a b : Act Pool) (p : Pool) → Few j (a p) → Few k (b (a p .pool)) → Few (j + k) ((a >> b) p)
+unfolding _>>_
+few-then j k a b p f g = rw length-append (omega arith)
+
+few-if : {b : Bool} {k : ℕ} (a₁ a₂ : Act Pool) (p : Pool) → (b ≡ true → Few k (a₁ p)) → (b ≡ false → Few k (a₂ p)) → Few k ((if b then a₁ else a₂) p)
+unfolding if_then_else_
+few-if {b = true} a₁ a₂ p f g = f refl
+few-if {b = false} a₁ a₂ p f g = g refl
+
+createMany-few : (n : ℕ) (p : Pool) → Few n (createMany n p)
+unfolding createMany createPendingConnection _>>_
+createMany-few zero p = omega arith
+createMany-few (suc n) p = omega (arith, createMany-few n (createPendingConnection Background p .pool))
+
+removePerished-few : (l : List Conn) (p : Pool) → Few (length l) (removePerished l p)
+unfolding removePerished closePerished _>>_
+removePerished-few [] p = omega arith
+removePerished-few (c ∷ cs) p =
+    few-if _ _ p (λ _. go (removePerished-few cs (withAvailable p cs))) (λ _. omega arith)
+  where
+    go : Few (length cs) (removePerished cs (withAvailable p cs))
+        → Few (suc (length cs)) ((become (withAvailable p cs) >> closePerished c >> removePerished cs) p)
+    go h = omega arith
+
+tellAll-few : (a : Reply) (p : Pool) → Few (length (p .waiting)) (tellAll a p)
+unfolding tellAll _>>_
+tellAll-few a p = simp (length-append, length-map) (omega arith)
+
+queue-few : (n : ℕ) (warm : Bool) (s : PoolState) (p : Pool) → Few 1 (queue n warm s p)
+unfolding queue
+queue-few n warm New p = omega arith
+queue-few n warm (Paused cause) p = omega arith
+queue-few n warm Ready p = omega arith
+queue-few n warm Closed p = omega arith
+
+checkIn-few : (n : ℕ) (errored executing : Bool) (letGo : ℕ) (p : Pool) → Few 2 (checkIn n errored executing letGo p)
+unfolding checkIn leaveLent shelve
+checkIn-few n errored executing letGo p =
+    few-then 0 2 _ _ p (omega arith)
+    (few-if _ _ _ (λ _. omega arith)
+    (λ _. few-then 1 1 _ _ _ (omega arith)
+    (few-if _ _ _ (λ _. omega arith) (λ _. few-if _ _ _ (λ _. omega arith) (λ _. few-if _ _ _ (λ _. omega arith) (λ _. omega arith))))))
+
+-- a ready pool says that it is cleared, and answers everyone
+cleared-few : (ready : Bool) (r : Record) (a : Reply) (p : Pool) → Few (1 + length (p .waiting)) ((if ready then emit r >> tellAll a else nothing) p)
+unfolding if_then_else_ _>>_
+cleared-few true r a p = omega (arith, tellAll-few a p)
+cleared-few false r a p = omega arith
+
+clear-few : (timeout : Bool) (cause : ℕ) (p : Pool) → Few (length (p .waiting) + 2) (clear timeout cause p)
+unfolding clear mode if_then_else_ _>>_
+clear-few true cause p = simp length-append (omega (arith, cleared-few (isReady (p .state)) (PoolCleared true cause (p .generation + 1)) (Cleared cause) p))
+clear-few false cause p = simp length-append (omega (arith, cleared-few (isReady (p .state)) (PoolCleared false cause (p .generation + 1)) (Cleared cause) p))
+
+succeededForPool-few : (n opened : ℕ) (p : Pool) → Few 2 (succeededForPool n opened p)
+unfolding succeededForPool leavePending shelve
+succeededForPool-few n opened p = few-then 1 1 _ _ p (omega arith) (few-then 0 1 _ _ _ (omega arith) (few-if _ _ _ (λ _. omega arith) (λ _. omega arith)))
+
+refill-few : (p : Pool) → Few (p .options .minimum) (ensureMinConnections p)
+unfolding ensureMinConnections
+refill-few p =
+    let k = min (p .options .minimum - total p) (p .options .connecting - length (p .pending)) in
+    few-if _ _ p (λ _. omega (arith, createMany-few k p)) (λ _. omega arith)
+
+maintenance-few : (p : Pool) → Few (length (p .available) + p .options .minimum) (maintenance p)
+unfolding maintenance
+maintenance-few p =
+    let q = removePerished (p .available) p .pool in
+    few-then (length (p .available)) (p .options .minimum) _ _ p (removePerished-few (p .available) p)
+    (rw (removePerished-keeps (p .available) p .options-stay) at (refill-few q))
+
+shut-few : (p : Pool) → Few (length (p .available) + length (p .waiting) + 1) (shut p)
+unfolding shut mode tellAll _>>_
+shut-few p = simp (length-append, length-map) (omega arith)
+
+own-few : (e : Event) (p : Pool) → Few (length (p .available) + length (p .waiting) + p .options .minimum + 2) (own e p)
+unfolding own request abandon markAsReady succeeded failed repin leavePending lendOut mode _>>_
+own-few (CheckOut n) p = omega (arith, queue-few n false (p .state) (withLastRequest p n))
+own-few (WarmPool n) p = omega (arith, queue-few n true (p .state) (withLastRequest p n))
+own-few (Abandon n) p = omega arith
+own-few (CheckIn n errored executing letGo) p = omega (arith, checkIn-few n errored executing letGo p)
+own-few (Clear timeout cause) p = omega (arith, clear-few timeout cause p)
+own-few MarkAsReady p = few-if _ _ p (λ _. omega arith) (λ _. omega arith)
+own-few (Succeeded n) p = omega arith
+own-few (SucceededForPool n opened) p = omega (arith, succeededForPool-few n opened p)
+own-few (Failed n) p = omega arith
+own-few Maintenance p = omega (arith, maintenance-few p)
+own-few FillPool p = omega arith
+own-few (Pin n) p = omega arith
+own-few (ReturnToPinner n) p = omega arith
+own-few (TakeFromPinner n) p = omega arith
+own-few Close p = omega (arith, shut-few p)
+
+lend-few : (w : Waiter) (c : Conn) (p : Pool) → Few 1 (lend w c p)
+unfolding lend shelve lendOut told
+lend-few w c p = few-then 1 0 _ _ p (omega arith) (few-if _ _ p (λ _. omega arith) (λ _. omega arith))
+
+takeAvailable-few : (w : Waiter) (l : List Conn) (p : Pool) → Few (length l + 2) (takeAvailable w l p)
+unfolding takeAvailable establish createPendingConnection closePerished told _>>_
+takeAvailable-few w [] p = omega arith
+takeAvailable-few w (c ∷ cs) p =
+    let q = withAvailable p (reverse cs) in
+    few-if _ _ q (λ _. omega (arith, takeAvailable-few w cs q)) (λ _. omega (arith, lend-few w c q))
+
+serveFront-few : (l : List Waiter) (p : Pool) → Few (length (p .available) + 2) (serveFront l p)
+unfolding serveFront checkOut establish createPendingConnection told _>>_
+serveFront-few [] p = omega arith
+serveFront-few (w ∷ l) p =
+    few-if _ _ (withWaiting p l) (λ _. few-if _ _ (withWaiting p l) (λ _. omega arith) (λ _. omega arith))
+    (λ _. omega (arith, rw length-reverse at (takeAvailable-few w (reverse (p .available)) (withWaiting p l))))
+
+service-few : (b : Bool) (p : Pool) → Few (length (p .available) + 2) ((if b then service else nothing) p)
+unfolding service
+service-few b p = few-if _ _ p (λ _. few-if _ _ p (λ _. serveFront-few (p .waiting) p) (λ _. omega arith)) (λ _. omega arith)
+
+event-few : (e : Event) (p : Pool) (m : ℕ) → Named e p → p .options .minimum ≤ m → total p ≤ m → Few (length (p .waiting) + 3 * m + 4) (event e p)
+unfolding event
+event-few e p m n k f =
+    let l = length (p .available) + length (p .waiting) + p .options .minimum + 2 in
+    let q = own e p .pool in
+    let fits = own-fits e p m n k f in
+    let written : Few (l + (length (q .available) + 2)) (event e p) = few-then l (length (q .available) + 2) _ _ p (own-few e p) (service-few (serviced e) q) in
+    omega arith
+
+pub step-few : (p : Pool) (f : Frame) (room : ℕ) (r : Result) → Stepped p f room r → Reached p → p .options .maximum ≤ most
+    → length (after p r .records) ≤ 512
+step-few p f room r (no-step n) g h = omega arith
+step-few p f room r (a-step {e = e} {now = now} {room = room'} s) g h =
+    let few = event-few e (withClock p now) most (passed-named p e now room' s) (omega (arith, g .ordered)) (omega (arith, g .fits)) in
+    omega (arith, g .short)

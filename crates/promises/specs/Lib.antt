@@ -1,0 +1,13 @@
+pub mod Runs
+pub mod Calls
+pub mod Flow
+pub mod Kept
+pub mod Progress
+pub mod Sums
+pub mod Conserve
+pub mod Numbered
+pub mod Bound
+pub mod Few
+pub mod Promises
+pub mod Proved
+pub mod GivesBack

@@ -1,0 +1,96 @@
+-- THE PROMISES, apart from their proofs, which Proved gives. Each is said of every list of calls to a fresh pool: frames good and bad,
+-- calls refused and accepted, any room lent. Log and Runs have the words.
+use mathlib.Core.Path.{_≡_}
+use mathlib.Core.Option.{none}
+use mathlib.Core.List.{List, [], _∷_, _++_, List·Memᴰ}
+use Prim.Native.Nat.{ℕ, suc, _+_, _*_, _≤_}
+use lib.ListN.{length}
+use Rattle.definition.specs.Pool.{Pool, fresh, most, withDefaults, withClock}
+use Rattle.definition.specs.Records.{Record, Replied, Pooled}
+use Rattle.definition.specs.Steps.{own, service}
+use Rattle.definition.specs.Refusals.{first, tests, Call, after, run, enoughRoom, Made, make}
+use Rattle.definition.specs.declared.Options.{Options}
+use Rattle.definition.specs.declared.Event.{Event}
+use Rattle.definition.specs.declared.Frame.the-variants.{Good}
+use Rattle.definition.specs.Log.{created, closed, answered, numbers, ids, often, Rising}
+use Rattle.promises.specs.Runs.{result, next, taken, accepted, puts, times}
+
+-- the pool that the calls leave, and all their records
+abbrev pub poolAfter : Options → List Call → Pool
+poolAfter o calls = run calls (fresh o) .pool
+
+abbrev pub logOf : Options → List Call → List Record
+logOf o calls = run calls (fresh o) .records
+
+-- how often connection i stands in the three lists together
+abbrev pub standing : ℕ → Pool → ℕ
+standing i p = often i (numbers (p .available)) + often i (numbers (p .lent)) + often i (numbers (p .pending))
+
+-- The pool that is made is a fresh one whose minimum is not above its maximum, and its maximum not above 64.
+pub record Fresh (asked : Options) (p : Pool) : Type 0 where
+  pub is-fresh : p ≡ fresh (withDefaults asked)
+  pub ordered : p .options .minimum ≤ p .options .maximum
+  pub small : p .options .maximum ≤ most
+
+abbrev pub MadeFresh : Type 0
+MadeFresh = (asked : Options) (p : Pool) → make asked ≡ Made p → Fresh asked p
+
+-- (a) Connections: read off the records, those created and not yet closed are each in exactly one of available, lent and pending, once.
+pub record Connections (o : Options) (calls : List Call) : Type 0 where
+  -- a connection is created as often as it is closed and stands in the lists
+  pub balance : (i : ℕ) → often i (created (logOf o calls)) ≡ often i (closed (logOf o calls)) + standing i (poolAfter o calls)
+  -- none is created twice
+  pub once : (i : ℕ) → often i (created (logOf o calls)) ≤ 1
+  -- so: one that was created and isn't closed stands in the lists exactly once,
+  pub open-ones-stand : (i : ℕ) → 1 ≤ often i (created (logOf o calls)) → often i (closed (logOf o calls)) ≡ 0 → standing i (poolAfter o calls) ≡ 1
+  -- and one that stands in the lists stands there once, was created, and isn't closed
+  pub stands-once : (i : ℕ) → 1 ≤ standing i (poolAfter o calls) → standing i (poolAfter o calls) ≡ 1
+  pub standing-was-created : (i : ℕ) → 1 ≤ standing i (poolAfter o calls) → often i (created (logOf o calls)) ≡ 1
+  pub standing-is-open : (i : ℕ) → 1 ≤ standing i (poolAfter o calls) → often i (closed (logOf o calls)) ≡ 0
+  -- there are never more than the maximum
+  pub at-most : length (poolAfter o calls .available) + length (poolAfter o calls .lent) + length (poolAfter o calls .pending) ≤ o .maximum
+
+-- Reply 16 is only for one that is free: where an event that passes every test comes to its service stage, in the pool q that its own stage
+-- leaves, a connection that the service stage hands out stands on the available list, once, and is neither lent nor pending.
+pub record Free (i : ℕ) (q : Pool) : Type 0 where
+  pub is-available : often i (numbers (q .available)) ≡ 1
+  pub not-lent : often i (numbers (q .lent)) ≡ 0
+  pub not-pending : often i (numbers (q .pending)) ≡ 0
+
+abbrev pub HandsOutFree : Options → Type 0
+HandsOutFree o =
+    (before : List Call) (e : Event) (now room : ℕ) → first (tests (poolAfter o before) (Good e now) room) ≡ none
+    → let q = own e (withClock (poolAfter o before) now) .pool in
+    (r i : ℕ) → List·Memᴰ (Replied r (Pooled i)) (service q .records) → Free i q
+
+-- (b) Requests: those accepted are those answered, in order of the log, and then those still waiting, front to back.
+pub record Requests (o : Options) (calls : List Call) : Type 0 where
+  pub in-order : accepted (fresh o) calls ≡ answered (logOf o calls) ++ ids (poolAfter o calls .waiting)
+  -- the numbers accepted strictly rise,
+  pub accepted-rise : Rising 0 (accepted (fresh o) calls)
+  -- so those answered do: the order of answers is that of arrival,
+  pub answered-rise : Rising 0 (answered (logOf o calls))
+  -- and nobody is answered twice
+  pub answered-once : (i : ℕ) → often i (answered (logOf o calls)) ≤ 1
+
+-- (c) A request that is accepted with k waiting ahead of it has its answer by the end of the (k+1)th later call that puts a connection
+-- on the available list of a Ready pool.
+abbrev pub InTime : Options → Type 0
+InTime o =
+    (before : List Call) (call : Call) (later : List Call) (n : ℕ)
+    → taken (call .frame) (result (poolAfter o before) call) ≡ n ∷ []
+    → suc (length (poolAfter o before .waiting)) ≤ times puts (next (poolAfter o before) call) later
+    → List·Memᴰ n (answered (run (call ∷ later) (poolAfter o before) .records))
+
+-- (d) The closed records of one service stage are never more than were available before it, whatever the pool.
+abbrev pub FewClosed : Type 0
+FewClosed = (p : Pool) → length (closed (service p .records)) ≤ length (p .available)
+
+-- A call writes 512 records at most: of 16 bytes each, they fit the room that is asked for.
+pub record FewRecords (o : Options) (before : List Call) (call : Call) : Type 0 where
+  pub at-most : length (after (poolAfter o before) (result (poolAfter o before) call) .records) ≤ 512
+  pub room-for-all : 16 * length (after (poolAfter o before) (result (poolAfter o before) call) .records) ≤ enoughRoom
+
+-- (e) The pool counts its records: the next record's serial is the number of those in the log.
+abbrev pub Serials : Options → List Call → Type 0
+Serials o calls = poolAfter o calls .written ≡ length (logOf o calls)

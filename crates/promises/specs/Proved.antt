@@ -1,0 +1,137 @@
+-- The promises kept: each is one theorem.
+use mathlib.Core.Path.{_≡_, refl, sym}
+use mathlib.Core.Bool.{Bool, true, false, _&&_}
+use mathlib.Core.List.{List, [], _∷_, _++_, List·Memᴰ, List·Memᴰ·head, List·Memᴰ·tail}
+use Prim.Native.Nat.{ℕ, _+_, _≤_, _<_}
+use native.Mathlib.Omega.{arith}
+use borrow.Author.Tests.{leb-true, eqb-true, ne-eqb, eq-eqb}
+use Rattle.definition.specs.Words.{if_then_else_, _≤?_, _=?_}
+use Rattle.definition.specs.Pool.{Pool, fresh, most, withDefaults, inRange, withClock}
+use Rattle.definition.specs.Steps.{Out, _>>_, own}
+use Rattle.definition.specs.Refusals.{run, Call, Made, NotMade, make}
+use Rattle.definition.specs.declared.Options.{Options}
+use Rattle.definition.specs.declared.Refusal.the-variants.{OptionsOutOfRange}
+use Rattle.definition.specs.Log.{created, closed, answered, ids, often, sumOf, Rising}
+use Rattle.promises.specs.Promises.{Fresh, MadeFresh, Connections, HandsOutFree, Requests, InTime, FewClosed, FewRecords, Serials, poolAfter, logOf, standing}
+use Rattle.definition.specs.Sentences.{pooled-was-available}
+use Rattle.promises.specs.Calls.{and-left, and-right, stepped}
+use Rattle.promises.specs.Flow.{run-flow, run-calms, fresh-calm}
+use Rattle.promises.specs.Kept.{run-rising, run-options, run-written}
+use Rattle.promises.specs.Progress.{progress}
+use Rattle.promises.specs.Conserve.{held, Moves, conserved, run-moves, until-service-moves}
+use Rattle.promises.specs.Numbered.{Numbers, created-once, run-numbers, until-service-numbers}
+use Rattle.promises.specs.Bound.{run-reached, fresh-reached}
+use Rattle.promises.specs.Few.{service-closes, step-few}
+
+-- ── Made ───────────────────────────────────────────────────────────────────────────────────────────────────────────────
+
+in-range : (o : Options) → inRange o ≡ true → (o .minimum ≤ o .maximum) × (o .maximum ≤ most)
+unfolding inRange
+in-range o h =
+    let most? = 1 ≤? o .maximum && o .maximum ≤? most in
+    let fewest? = o .minimum ≤? o .maximum in
+    let k = and-left (most? && fewest?) (1 ≤? o .connecting) (and-left (most? && fewest? && 1 ≤? o .connecting) _ h) in
+    (leb-true _ _ (and-right most? fewest? k), leb-true _ _ (and-right (1 ≤? o .maximum) _ (and-left most? fewest? k)))
+
+pub made : MadeFresh
+unfolding make if_then_else_
+made asked p h = go (inRange (withDefaults asked)) refl h
+  where
+    go : (b : Bool) → inRange (withDefaults asked) ≡ b
+        → (if b then Made (fresh (withDefaults asked)) else NotMade OptionsOutOfRange) ≡ Made p → Fresh asked p
+    go true e k =
+        let same : p ≡ fresh (withDefaults asked) = cc in
+        let fine = in-range (withDefaults asked) e in
+        record { is-fresh = same; ordered = rw same (fine .0); small = rw same (fine .1) }
+    go false e k = let z : _≡_ {A = ℕ} 0 1 = cc in absurd (omega arith)
+
+-- ── Connections ────────────────────────────────────────────────────────────────────────────────────────────────────────
+
+-- of a fresh pool that has come to this, each connection that was created is closed or stands in one list, once
+record Balanced (out : Out Pool) (i : ℕ) : Type 0 where
+  once : often i (created (out .records)) ≤ 1
+  even : often i (created (out .records)) ≡ often i (closed (out .records)) + standing i (out .pool)
+
+balanced : (o : Options) (out : Out Pool) → Moves [] [] (fresh o) out → Numbers (fresh o) out → (i : ℕ) → Balanced out i
+unfolding held
+balanced o out m n i = record { once = created-once (fresh o) out n i; even = omega (arith, conserved o out m (λ n. if n =? i then 1 else 0)) }
+
+pub connections : (o : Options) → o .minimum ≤ o .maximum → (calls : List Call) → Connections o calls
+connections o h calls =
+    record {
+      balance = λ i. each i .even;
+      once = λ i. each i .once;
+      open-ones-stand = λ i a b. omega (arith, each i);
+      stands-once = λ i a. omega (arith, each i);
+      standing-was-created = λ i a. omega (arith, each i);
+      standing-is-open = λ i a. omega (arith, each i);
+      at-most = rw run-options at (run-reached calls (fresh o) (fresh-reached o h) .fits);
+    }
+  where
+    each : (i : ℕ) → Balanced (run calls (fresh o)) i
+    each = balanced o (run calls (fresh o)) (run-moves calls (fresh o)) (run-numbers calls (fresh o))
+
+in-often : {i : ℕ} {l : List ℕ} → List·Memᴰ i l → 1 ≤ often i l
+unfolding sumOf if_then_else_
+in-often {i} (List·Memᴰ·head {x = n} e) = rw (eq-eqb n i (sym e)) (omega arith)
+in-often (List·Memᴰ·tail m) = omega (arith, in-often m)
+
+pub hands-out-free : (o : Options) → HandsOutFree o
+unfolding _>>_
+hands-out-free o before e now room h r i m =
+    let out = (run before >> (λ q. own e (withClock q now))) (fresh o) in
+    let b = balanced o out (until-service-moves before (fresh o) e now room h) (until-service-numbers before (fresh o) e now) i in
+    let there = in-often (pooled-was-available (out .pool) r i m) in
+    record { is-available = omega (arith, b .once, b .even); not-lent = omega (arith, b .once, b .even); not-pending = omega (arith, b .once, b .even) }
+
+-- ── Requests ───────────────────────────────────────────────────────────────────────────────────────────────────────────
+
+front-rising : (lo : ℕ) (a b : List ℕ) → Rising lo (a ++ b) → Rising lo a
+front-rising lo [] b r = tt
+front-rising lo (n ∷ a) b r = (r .0, front-rising n a b (r .1))
+
+below-rising : (l : List ℕ) (lo i : ℕ) → i ≤ lo → Rising lo l → often i l ≡ 0
+unfolding sumOf if_then_else_
+below-rising [] lo i h r = refl
+below-rising (n ∷ l) lo i h r =
+    let k : lo < n = r .0 in
+    rw (ne-eqb n i (λ e. omega arith)) (omega (arith, below-rising l n i (omega arith) (r .1)))
+
+rising-once : (l : List ℕ) (lo i : ℕ) → Rising lo l → often i l ≤ 1
+unfolding sumOf if_then_else_
+rising-once [] lo i r = omega arith
+rising-once (n ∷ l) lo i r = go (n =? i) refl (rising-once l n i (r .1))
+  where
+    go : (b : Bool) → (n =? i) ≡ b → often i l ≤ 1 → (if b then 1 else 0) + often i l ≤ 1
+    go true e h = omega (arith, below-rising l n i (omega (arith, eqb-true n i e)) (r .1))
+    go false e h = omega arith
+
+pub requests : (o : Options) (calls : List Call) → Requests o calls
+requests o calls =
+    let in-order = run-flow calls (fresh o) (fresh-calm o) .same in
+    let rise = run-rising calls (fresh o) in
+    let answered-rise = front-rising 0 (answered (logOf o calls)) (ids (poolAfter o calls .waiting)) (rw in-order at rise) in
+    record {
+      in-order = in-order;
+      accepted-rise = rise;
+      answered-rise = answered-rise;
+      answered-once = λ i. rising-once (answered (logOf o calls)) 0 i answered-rise;
+    }
+
+-- ── In time, few, counted ──────────────────────────────────────────────────────────────────────────────────────────────
+
+pub in-time : (o : Options) → InTime o
+in-time o before call later n = progress (poolAfter o before) call later n (run-calms before (fresh o) (fresh-calm o))
+
+pub few-closed : FewClosed
+few-closed = service-closes
+
+pub few-records : (o : Options) → o .minimum ≤ o .maximum → o .maximum ≤ most → (before : List Call) (call : Call) → FewRecords o before call
+few-records o h k before call =
+    let p = poolAfter o before in
+    let reached = run-reached before (fresh o) (fresh-reached o h) in
+    let few = step-few p (call .frame) (call .room) _ (stepped p (call .frame) (call .room)) reached (rw run-options k) in
+    record { at-most = few; room-for-all = omega arith }
+
+pub serials : (o : Options) (calls : List Call) → Serials o calls
+serials o calls = omega (arith, run-written calls (fresh o))

@@ -1,0 +1,13 @@
+pub mod Order
+pub mod Laid
+pub mod Columns
+pub mod OrderLaws
+pub mod View
+pub mod Done
+pub mod Slots
+pub mod Call
+pub mod Needs
+pub mod Codes
+pub mod Parts
+pub mod DoneLaws
+pub mod CodeLaws

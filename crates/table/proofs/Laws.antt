@@ -1,0 +1,106 @@
+-- Laws that the proofs cite: of the searching loop, of the shifting loop, and of a lent tail.
+use mathlib.Core.Path.{_≡_, refl, sym, _∙_}
+use mathlib.Core.List.{List, [], _∷_, _++_, append-nil}
+use Prim.Native.Nat.{ℕ, zero, suc, _+_, _-_, _≤_, _<_}
+use native.Mathlib.Omega.{arith}
+use lib.ListN.{length, take, drop, set, getD, length-drop, drop-of-length-le}
+use lib.Seq.{append-snoc, drop-cons, drop-drop, getD-drop, set-at, take-all, take-suc}
+use Rattle.slots.specs.Columns.{front-kept, back-set}
+use Rattle.slots.specs.Laid.{laid}
+use Rattle.slots.specs.Order.{placeBy, shifted}
+use Rattle.slots.specs.OrderLaws.{Missed, missed-more, place-is, place-none, getD-tail, length-tail}
+
+-- ── The search ─────────────────────────────────────────────────────────────────────────────────────────────────────────
+
+-- before turn i: none of the cells passed has the number
+pub record Searching (f : ℕ → ℕ) (x n : ℕ) (l : List ℕ) (i : ℕ) : Type 0 where
+  pub low : i ≤ n
+  pub missed : Missed f x i l
+
+pub searching-start : (f : ℕ → ℕ) (x n : ℕ) (l : List ℕ) → Searching f x n l 0
+searching-start f x n l = record { low = omega arith; missed = λ k h. absurd (omega arith) }
+
+module _ {f : ℕ → ℕ} {x n : ℕ} {l : List ℕ} {i : ℕ} where
+  pub searching-step : Searching f x n l i → i < n → (f (getD l i 0) ≡ x → ⊥) → Searching f x n l (i + 1)
+  searching-step v h other = record { low = omega arith; missed = missed-more f x i l (v .missed) other }
+
+  pub searching-hit : Searching f x n l i → i < n → f (getD l i 0) ≡ x → i ≡ placeBy f x n l
+  searching-hit v h e = sym (place-is f x n i l h (v .missed) e)
+
+  pub searching-end : Searching f x n l i → n ≤ i → n ≡ placeBy f x n l
+  searching-end v h = sym (place-none f x n l (λ (k : ℕ) (g : k < n). v .missed k (omega arith)))
+
+-- ── The shift ──────────────────────────────────────────────────────────────────────────────────────────────────────────
+
+-- after n cells moved up
+abbrev moved : ℕ → List ℕ → List ℕ
+moved n l = take n (drop 1 l) ++ drop n l
+
+moved-set : (n v : ℕ) (l : List ℕ) → n < length l → set (moved n l) n v ≡ take n (drop 1 l) ++ v ∷ drop (suc n) l
+moved-set n v l h = rw (drop-cons l n 0 h) (set-at (take n (drop 1 l)) (getD l n 0) (drop (suc n) l) v n (length-tail n l h))
+
+-- cells not yet passed
+moved-rest : (n k : ℕ) (l : List ℕ) → n ≤ k → n < length l → getD (moved n l) k 0 ≡ getD l k 0
+moved-rest zero k l g h = refl
+moved-rest (suc n) zero l g h = absurd (omega arith)
+moved-rest (suc n) (suc k) [] g h = absurd (omega arith)
+moved-rest (suc n) (suc k) (x ∷ []) g h = absurd (omega arith)
+moved-rest (suc n) (suc k) (x ∷ y ∷ l) g h = moved-rest n k (y ∷ l) (omega arith) (omega arith)
+
+moved-more : (n : ℕ) (l : List ℕ) → suc n < length l → set (moved n l) n (getD (moved n l) (suc n) 0) ≡ moved (suc n) l
+moved-more n l h =
+    let t : List ℕ = drop 1 l in
+    let next : getD (moved n l) (suc n) 0 ≡ getD t n 0 = moved-rest n (suc n) l (omega arith) (omega arith) ∙ sym (getD-tail l n) in
+    let more : take (suc n) t ≡ take n t ++ (getD t n 0 ∷ []) = take-suc t n 0 (simp length-drop (omega arith)) in
+    moved-set n _ l (omega arith) ∙ rw (next, more) (sym (append-snoc (take n t) (getD t n 0) (drop (suc n) l)))
+
+moved-end : (n : ℕ) (l : List ℕ) → n < length l → set (moved n l) n 0 ≡ shifted (suc n) l
+unfolding shifted
+moved-end n l h = let e : suc n - 1 ≡ n = omega arith in rw e (moved-set n 0 l h)
+
+-- from cell o on: before turn i, of those that move the n cells of a up
+pub record Shifting (o n : ℕ) (a b : List ℕ) (i : ℕ) : Type 0 where
+  pub some : 0 < i
+  pub low : i ≤ n
+  pub long : o + n ≤ length a
+  pub front : take o b ≡ take o a
+  pub back : drop o b ≡ moved (i - 1) (drop o a)
+
+pub shifting-step : (o n : ℕ) (a b : List ℕ) (i j k : ℕ) → suc j ≡ o + i → k ≡ o + i → Shifting o n a b i → i < n → Shifting o n a (set b j (getD b k 0)) (i + 1)
+shifting-step o n a b i j k p q v h =
+    let m : ℕ = i - 1 in
+    let ej : j ≡ o + m = omega arith in
+    let ek : k ≡ o + suc m = omega arith in
+    let ei : i + 1 - 1 ≡ suc m = omega arith in
+    record {
+      some = omega arith;
+      low = omega arith;
+      long = v .long;
+      front = front-kept o b j _ (omega arith) ∙ v .front;
+      back =
+          rw (ej, ek, ei)
+          (back-set o b m _
+          ∙ rw (← getD-drop o b (suc m) 0, v .back) (moved-more m (drop o a) (simp length-drop (omega (arith, v .long)))));
+    }
+
+pub shifting-end : (o n : ℕ) (a b : List ℕ) (i j : ℕ) → suc j ≡ o + n → Shifting o n a b i → n ≤ i
+    → (take o (set b j 0) ≡ take o a) × (drop o (set b j 0) ≡ shifted n (drop o a))
+shifting-end o n a b i j p v h =
+    let m : ℕ = i - 1 in
+    let ej : j ≡ o + m = omega (arith, v .low, v .some) in
+    let en : n ≡ suc m = omega (arith, v .low, v .some) in (
+      front-kept o b j 0 (omega arith) ∙ v .front,
+      rw (ej, en) (back-set o b m 0 ∙ rw (v .back) (moved-end m (drop o a) (simp length-drop (omega (arith, v .long))))),
+    )
+
+-- ── Bytes laid down ────────────────────────────────────────────────────────────────────────────────────────────────────
+
+-- what a lent tail `&mut out[off..]` leaves
+pub tail-laid : (l : List ℕ) (off : ℕ) (bs y : List ℕ) → y ≡ bs ++ drop (length bs) (take (length l - off) (drop off l))
+    → take off l ++ (y ++ drop (length l - off) (drop off l)) ≡ laid l off bs
+unfolding laid
+tail-laid l off bs y e =
+    let k : ℕ = length l - off in
+    let all : take k (drop off l) ≡ drop off l = take-all k (drop off l) (simp length-drop (omega arith)) in
+    let none : drop k (drop off l) ≡ [] = drop-of-length-le (drop off l) {i = k} (simp length-drop (omega arith)) in
+    rw (e, all, none, append-nil, drop-drop)

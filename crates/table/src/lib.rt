@@ -1,0 +1,98 @@
+// What the pool's columns need: finding, shifting, and laying a record down. Nothing here knows what a pool is.
+ghost use mathlib.Core.Path.{_≡_};
+ghost use mathlib.Core.List.{_++_};
+ghost use Prim.Native.Nat.{_+_, _*_, _≤_, _<_};
+ghost use lib.ListN.{length, take, drop};
+ghost use Rattle.definition.specs.Records.{fields};
+ghost use Rattle.definition.specs.Bytes.{serialOf, recordBytes};
+ghost use Rattle.slots.specs.Order.{place, placeOf, shifted};
+ghost use Rattle.slots.specs.Laid.{laid};
+
+// The first of the front 64 cells that holds the number, or 64.
+pub fn find(cells: &[u32; 128], id: u32) -> usize
+    ensures { λ r. ⌜ r ≡ place id 64 (now (cells .entry)) ⌝ }
+{
+    let mut i: usize = 0;
+    while i < 64 {
+        if cells[i] == id {
+            return i;
+        }
+        i += 1;
+    }
+    64
+}
+
+// The first of the front n waiters with the request id, or n. A waiter is four times its id, and its marks.
+pub fn find_waiter(waiters: &[u64; 256], n: usize, id: u32) -> usize
+    requires { ⌜ n ≤ 256 ⌝ }
+    ensures { λ r. ⌜ r ≡ placeOf id n (now (waiters .entry)) ⌝ }
+{
+    let wanted = id as u64;
+    let mut i: usize = 0;
+    while i < n {
+        if waiters[i] / 4 == wanted {
+            return i;
+        }
+        i += 1;
+    }
+    n
+}
+
+// Of the order list behind the 64 states: the front leaves, the others of the n move up, and a 0 stands last of the n.
+pub fn shift_order(seats: &mut [u8; 128], n: usize)
+    requires { ⌜ (0 < n) × (n ≤ 64) × (length (now seats) ≡ 128) ⌝ }
+    ensures { λ _. ⌜ (take 64 (now (seats .exit)) ≡ take 64 (now (seats .entry))) × (drop 64 (now (seats .exit)) ≡ shifted n (drop 64 (now (seats .entry)))) ⌝ }
+{
+    let mut i: usize = 1;
+    while i < n {
+        seats[63 + i] = seats[64 + i];
+        i += 1;
+    }
+    seats[63 + n] = 0;
+}
+
+// The front waiter leaves, the others of the n move up, and a 0 stands last of the n.
+pub fn shift_waiters(waiters: &mut [u64; 256], n: usize)
+    requires { ⌜ (0 < n) × (n ≤ 256) × (length (now waiters) ≡ 256) ⌝ }
+    ensures { λ _. ⌜ now (waiters .exit) ≡ shifted n (now (waiters .entry)) ⌝ }
+{
+    let mut i: usize = 1;
+    while i < n {
+        waiters[i - 1] = waiters[i];
+        i += 1;
+    }
+    waiters[n - 1] = 0;
+}
+
+// A record at the front of a lent tail.
+pub fn put_record(o: &mut [u8], kind: u8, reason: u8, serial: u32, id: u64, other: u32)
+    requires { ⌜ 16 ≤ length (now o) ⌝ }
+    ensures { λ _. ⌜ now (o .exit) ≡ recordBytes serial (fields kind reason id other) ++ drop 16 (now (o .entry)) ⌝ }
+{
+    o[0] = kind;
+    o[1] = reason;
+    o[2] = 0;
+    o[3] = 0;
+    o[4] = (serial / 16777216 % 256) as u8;
+    o[5] = (serial / 65536 % 256) as u8;
+    o[6] = (serial / 256 % 256) as u8;
+    o[7] = (serial % 256) as u8;
+    o[8] = (id / 16777216 % 256) as u8;
+    o[9] = (id / 65536 % 256) as u8;
+    o[10] = (id / 256 % 256) as u8;
+    o[11] = (id % 256) as u8;
+    o[12] = (other / 16777216 % 256) as u8;
+    o[13] = (other / 65536 % 256) as u8;
+    o[14] = (other / 256 % 256) as u8;
+    o[15] = (other % 256) as u8;
+}
+
+// Record n of an event whose first record has the serial given: written after those already laid down.
+pub fn emit(out: &mut [u8], n: u32, serial: u32, kind: u8, reason: u8, id: u64, other: u32)
+    requires { ⌜ 16 * (n + 1) ≤ length (now out) ⌝ }
+    ensures { λ _. ⌜ now (out .exit) ≡ laid (now (out .entry)) (16 * n) (recordBytes (serialOf (serial + n)) (fields kind reason id other)) ⌝ }
+{
+    let off = 16 * (n as usize);
+    let s = std::num::wrapping_add_u32(serial, n);
+    put_record(&mut out[off..], kind, reason, s, id, other);
+}

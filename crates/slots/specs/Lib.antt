@@ -11,3 +11,4 @@ pub mod Codes
 pub mod Parts
 pub mod DoneLaws
 pub mod CodeLaws
+pub mod StepLaws

@@ -88,6 +88,9 @@ module _ (h : Head) (cs ts ss ws : List ℕ) where
   slot-at w i low =
       row-at (drop 64 cs) ts (take 64 ss) i (omega (arith, w .slots)) ∙ rw (getD-drop 64 cs i 0, getD-take 64 ss i 0 low)
 
+  pub generation-at : Whole (poolOf h cs ts ss ws) → (i : ℕ) → i < 64 → slotAt (poolOf h cs ts ss ws) i .generation ≡ getD cs (64 + i) 0
+  generation-at w i low = ap (λ (s : Slot). s .generation) (slot-at w i low)
+
   pub cells-long : Whole (poolOf h cs ts ss ws) → (64 ≤ length (drop 64 cs)) × (64 ≤ length ts) × (64 ≤ length (take 64 ss))
   cells-long w = let r = rows-columns (drop 64 cs) ts (take 64 ss) in (omega (arith, w .slots, r .0), omega (arith, w .slots, r .1), omega (arith, w .slots, r .2))
 

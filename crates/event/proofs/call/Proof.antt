@@ -1,0 +1,44 @@
+use mathlib.Core.Path.{_≡_, refl, sym, ap, _∙_}
+use denote.Ref.{now}
+use Rattle.definition.specs.declared.Frame.{Frame}
+use Rattle.slots.specs.View.{poolOf}
+use Rattle.slots.specs.Call.{call}
+use Rattle.event.specs.Laws.{call-short, call-good, call-bad}
+use borrow.Author.Needs.{needs}
+use Rattle.event.proofs.call.Statement.{statement}
+use Rattle.event.proofs.call.Tie as tie
+use Rattle.event.proofs.call.Reads as reads
+use Rattle.event.proofs.call.Lts as lts
+use Rattle.event.proofs.step.Reads as step-reads
+
+returns : tie.Need-returns
+returns c =
+    let a = c .before .before .args in
+    sym (call-short (poolOf (a .head) (now (a .cells)) (now (a .times)) (now (a .seats)) (now (a .waiters))) (now (a .out)) (a .frame) (c .if1 .taken))
+
+enum-known-frame : tie.Need-enum-known-frame
+enum-known-frame c = search needs
+
+step-requires : tie.Need-step-requires
+step-requires c κs = search needs
+
+enum-told : tie.Need-enum-told
+enum-told c = search needs
+
+same-length : tie.Need-same-length
+same-length c = search needs
+
+returns-2 : tie.Need-returns-2
+returns-2 c =
+    let a = c .before .before .before .before .before .before .before .before .before .before .before .before .before .args in
+    rw (c .before .before .before .before .before .before .before .before .before .frame .given .1, call-good (poolOf (a .head) (now (a .cells)) (now (a .times)) (now (a .seats)) (now (a .waiters))) (now (a .out)) _ _ (c .before .before .before .before .before .before .before .before .before .before .before .if1 .left)) (c .before .before .step .ensures)
+
+returns-3 : tie.Need-returns-3
+returns-3 c =
+    let a = c .before .before .before .before .args in
+    rw (c .enum-told .given .1) (sym (call-bad (poolOf (a .head) (now (a .cells)) (now (a .times)) (now (a .seats)) (now (a .waiters))) (now (a .out)) (c .before .before .if1 .left)))
+
+pub call-spec : {M : Type 1} → statement M
+call-spec =
+    tie.close
+    (tie.spec returns enum-known-frame step-requires enum-told same-length returns-2 returns-3)

@@ -1,0 +1,102 @@
+-- From a formed pool and passed tests, what the stages of an event ask; and what a call is, case by case.
+use mathlib.Core.Path.{_≡_, refl, sym, ap, subst, _∙_}
+use mathlib.Core.Bool.{Bool, true, false, true≢false, false≢true, not, _&&_, _||_}
+use mathlib.Core.List.{List, [], _∷_}
+use Prim.Native.Nat.{ℕ, _+_, _≤_, _<_}
+use native.Mathlib.Omega.{arith}
+use lib.ListN.{length}
+use borrow.Author.Tests.{lt-ltb, le-ltb, eq-eqb}
+use Rattle.definition.specs.Words.{if_then_else_, _=?_, _<?_}
+use Rattle.definition.specs.Pool.{isClosed}
+use Rattle.definition.specs.Steps.{Out, nothing, kindNo, serviced}
+use Rattle.definition.specs.Refusals.{enoughRoom, lastNextId, lastGeneration, takenAfterClose}
+use Rattle.definition.specs.Bytes.{serialOf}
+use Rattle.definition.specs.declared.Event.{Event}
+use Rattle.definition.specs.declared.Frame.{Frame}
+use Rattle.definition.specs.declared.Frame.the-variants.{Good, Bad}
+use Rattle.definition.specs.declared.Refusal.{Refusal}
+use Rattle.definition.specs.declared.Refusal.the-variants.{OutputShort, Malformed}
+use Rattle.slots.specs.View.{SlotPool, Whole}
+use Rattle.slots.specs.Done.{Room, Done}
+use Rattle.slots.specs.Needs.{CanServe}
+use Rattle.slots.specs.Slots.{own, event, service, withClock, withSerial}
+use Rattle.slots.specs.Call.{target, verdict, World, world, accepted, judged, step, call, numbersSpent}
+use Rattle.slots.specs.declared.Verdict.the-variants.{Refuse, At}
+use Rattle.slots.specs.declared.Outcome.the-variants.{Refused, Accepted}
+use Rattle.refinement.specs.Stands.{Stands, Formed}
+use Rattle.refinement.specs.Tests.{Passed}
+use Rattle.refinement.specs.Events.{Fit, fit-clock}
+use Rattle.refinement.specs.Call.{clock-stands}
+use Rattle.refinement.specs.Formed.{ids-left, closed-takes}
+use Rattle.refinement.specs.Needs.{can-serve-after}
+use Rattle.refinement.specs.Few.{room-after}
+use Rattle.event.specs.Asks.{Asks}
+
+-- ── What the stages ask ────────────────────────────────────────────────────────────────────────────────────────────────
+
+by-closed : {A : Type 0} (b : Bool) → (b ≡ true → A) → (b ≡ false → A) → A
+by-closed true f g = f refl
+by-closed false f g = g refl
+
+or-right : (a b : Bool) → (a || b) ≡ false → b ≡ false
+or-right true b h = absurd (true≢false h)
+or-right false b h = h
+
+module _ (p : SlotPool) (e : Event) (now : ℕ) (f : Formed p) (h : Passed p e now) (i : ℕ) (at : i ≡ target p e) where
+  pub asks : Asks e i (withClock p now)
+  asks = record {
+    lists = _;
+    stands = clock-stands now (f .stands);
+    fit = fit-clock now p i e (subst (λ (x : ℕ). Fit e p x) (sym at) (h .fit));
+    ids = λ k. ids-left p e now h
+        (by-closed (isClosed (p .state)) (λ c. absurd (false≢true (rw k at (closed-takes p e now h c)))) (λ c. c))
+        (rw k);
+    generation = λ k g. absurd (true≢false (rw (k, g) at (or-right (not (isClosed (p .state)) && not (kindNo e =? 15) && lastNextId <? p .nextId) _ (h .numbers))));
+  }
+
+  pub serves : (q : SlotPool) (n : ℕ) (l : List ℕ) → q ≡ own e i (withClock p now) .pool → n ≡ 0 + length (own e i (withClock p now) .records) → enoughRoom ≤ length l
+      → Whole q × CanServe q × Room (q .availables + 2) n l
+  serves q n l eq en room =
+      let w = subst (λ (x : ℕ). Whole (own e x (withClock p now) .pool) × CanServe (own e x (withClock p now) .pool)) (sym at) (can-serve-after p e now f h) in
+      let a = asks in
+      let r = room-after e i (withClock p now) _ l (a .stands) (a .fit) room in
+      let v : q .availables ≡ own e i (withClock p now) .pool .availables = ap (λ (x : SlotPool). x .availables) eq in
+      (rw eq (w .0), rw eq (w .1), (omega (arith, en, v, r .0), omega (arith, en, v, r .1)))
+
+-- the service stage, where the event has one
+pub then-service : (b : Bool) (q : SlotPool) → b ≡ true → (if b then service else nothing) q ≡ service q
+unfolding if_then_else_
+then-service b q h = rw h
+
+pub then-nothing : (b : Bool) (q : SlotPool) → b ≡ false → (if b then service else nothing) q ≡ nothing q
+unfolding if_then_else_
+then-nothing b q h = rw h
+
+-- ── A step, and a call ─────────────────────────────────────────────────────────────────────────────────────────────────
+
+module _ (p : SlotPool) (l : List ℕ) (e : Event) (now : ℕ) where
+  pub step-refused : (r : Refusal) → verdict p e now ≡ Refuse r → step p l e now ≡ world p l (Refused r)
+  unfolding step
+  step-refused r h = ap (judged p l e now) h
+
+  pub step-taken : (i : ℕ) → verdict p e now ≡ At i → step p l e now ≡ accepted p l (event e i (withClock p now))
+  unfolding step
+  step-taken i h = ap (judged p l e now) h
+
+-- what was done, with the serial moved once
+pub done-world : {o : Out SlotPool} (p : SlotPool) {s m : ℕ} {l k : List ℕ} {q : SlotPool} → Done o (p .serial) 0 l q m k → s ≡ serialOf (p .serial + m) → world (withSerial q s) k (Accepted m) ≡ accepted p l o
+done-world {o} p {s} {m} d e = let z : m ≡ length (o .records) = omega (arith, d .count) in rw (e, z, d .out, d .pool)
+
+module _ (p : SlotPool) (l : List ℕ) where
+  pub call-short : (f : Frame) → length l < enoughRoom → call p l f ≡ world p l (Refused OutputShort)
+  unfolding call if_then_else_
+  call-short (Good e now) h = rw (lt-ltb (length l) enoughRoom h)
+  call-short Bad h = rw (lt-ltb (length l) enoughRoom h)
+
+  pub call-good : (e : Event) (now : ℕ) → enoughRoom ≤ length l → call p l (Good e now) ≡ step p l e now
+  unfolding call if_then_else_
+  call-good e now h = rw (le-ltb (length l) enoughRoom h)
+
+  pub call-bad : enoughRoom ≤ length l → call p l Bad ≡ world p l (Refused Malformed)
+  unfolding call if_then_else_
+  call-bad h = rw (le-ltb (length l) enoughRoom h)

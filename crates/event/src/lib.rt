@@ -1,0 +1,247 @@
+// One event: its tests, its own step, the service stage, and the serial moved past its records.
+ghost use mathlib.Core.Path.{_≡_};
+ghost use mathlib.Core.Bool.{true, false, _||_};
+ghost use Prim.Native.Nat.{_+_, _≤_, _<_};
+ghost use lib.ListN.{length};
+ghost use Rattle.definition.specs.Refusals.{enoughRoom};
+ghost use Rattle.definition.specs.Steps.{_to_holds_};
+ghost use Rattle.slots.specs.View.{given, before, after};
+ghost use Rattle.slots.specs.Done.{Done};
+ghost use Rattle.slots.specs.Slots.{own, event, withClock};
+ghost use Rattle.slots.specs.Call.{target, world, step, call};
+ghost use Rattle.refinement.specs.Stands.{Formed};
+ghost use Rattle.refinement.specs.Tests.{Passed};
+ghost use Rattle.event.specs.Asks.{Asks};
+use acts::Core;
+use definition::Event;
+use definition::Frame;
+use definition::Refusal;
+use slots::Head;
+use slots::Outcome;
+use slots::Verdict;
+
+pub struct Answer {
+    pub head: Head,
+    pub outcome: Outcome,
+}
+
+// Kinds 1, 2 and 4 to 11.
+fn is_serviced(kind: u8) -> bool
+    ensures { λ r. ⌜ r ≡ (1 to 2 holds kind || 4 to 11 holds kind) ⌝ }
+{
+    if kind < 1 {
+        return false;
+    }
+    if kind <= 2 {
+        return true;
+    }
+    if kind < 4 {
+        return false;
+    }
+    kind <= 11
+}
+
+// The event's own step, on the slot or the waiter that it names; the clock is the event's.
+pub fn own(
+    head: Head,
+    cells: &mut [u32; 128],
+    times: &mut [u64; 64],
+    seats: &mut [u8; 128],
+    waiters: &mut [u64; 256],
+    out: &mut [u8],
+    e: Event,
+    i: usize,
+) -> Core
+    requires { ⌜ Asks e i (given head cells times seats waiters) × (enoughRoom ≤ length (now out)) ⌝ }
+    ensures { λ r. ⌜ Done (own e i (before head cells times seats waiters)) (head .serial) 0 (now (out .entry)) (after (r .head) cells times seats waiters) (r .count) (now (out .exit)) ⌝ }
+{
+    match e {
+        Event::CheckOut(id) => steps::request(
+            head,
+            cells,
+            times,
+            seats,
+            waiters,
+            out,
+            0,
+            id,
+            false,
+        ),
+        Event::WarmPool(id) => steps::request(head, cells, times, seats, waiters, out, 0, id, true),
+        Event::Abandon(_) => {
+            steps::abandon(head, cells, times, seats, waiters, i);
+            Core {
+                head: head,
+                count: 0,
+            }
+        }
+        Event::CheckIn(_, errored, executing, let_go) => steps::check_in(
+            head,
+            cells,
+            times,
+            seats,
+            waiters,
+            out,
+            0,
+            i,
+            errored,
+            executing,
+            let_go,
+        ),
+        Event::Clear(timeout, cause) => upkeep::clear(
+            head,
+            cells,
+            times,
+            seats,
+            waiters,
+            out,
+            timeout,
+            cause,
+        ),
+        Event::MarkAsReady => steps::mark_as_ready(head, cells, times, seats, waiters, out, 0),
+        Event::Succeeded(_) => steps::handle_connection_succeeded(
+            head,
+            cells,
+            times,
+            seats,
+            waiters,
+            out,
+            0,
+            i,
+        ),
+        Event::SucceededForPool(_, opened) => steps::handle_connection_succeeded_for_pool(
+            head,
+            cells,
+            times,
+            seats,
+            waiters,
+            out,
+            0,
+            i,
+            opened,
+        ),
+        Event::Failed(_) => steps::handle_connection_failed(
+            head,
+            cells,
+            times,
+            seats,
+            waiters,
+            out,
+            0,
+            i,
+        ),
+        Event::Maintenance => upkeep::perform_maintenance(head, cells, times, seats, waiters, out),
+        Event::FillPool => Core {
+            head: head,
+            count: 0,
+        },
+        Event::Pin(_) => {
+            acts::turn(head, cells, times, seats, waiters, i, 3);
+            Core {
+                head: head,
+                count: 0,
+            }
+        }
+        Event::ReturnToPinner(_) => {
+            acts::turn(head, cells, times, seats, waiters, i, 4);
+            Core {
+                head: head,
+                count: 0,
+            }
+        }
+        Event::TakeFromPinner(_) => {
+            acts::turn(head, cells, times, seats, waiters, i, 3);
+            Core {
+                head: head,
+                count: 0,
+            }
+        }
+        Event::Close => upkeep::shut(head, cells, times, seats, waiters, out),
+    }
+}
+
+// An event that no test refuses: its own step at its time, then, once, the service stage.
+pub fn event(
+    head: Head,
+    cells: &mut [u32; 128],
+    times: &mut [u64; 64],
+    seats: &mut [u8; 128],
+    waiters: &mut [u64; 256],
+    out: &mut [u8],
+    e: Event,
+    time: u64,
+    i: usize,
+) -> Core
+    requires { ⌜ Formed (given head cells times seats waiters) × Passed (given head cells times seats waiters) e time × (i ≡ target (given head cells times seats waiters) e) × (enoughRoom ≤ length (now out)) ⌝ }
+    ensures { λ r. ⌜ Done (event e i (withClock (before head cells times seats waiters) time)) (head .serial) 0 (now (out .entry)) (after (r .head) cells times seats waiters) (r .count) (now (out .exit)) ⌝ }
+{
+    let mut h = head;
+    h.clock = time;
+    let c = own(h, cells, times, seats, waiters, out, e, i);
+    if is_serviced(verdict::kind_no(e)) {
+        let g = c.head;
+        let n = c.count;
+        return service::service(g, cells, times, seats, waiters, out, n);
+    }
+    c
+}
+
+// Any event: refused, and then nothing is changed, or done.
+pub fn step(
+    head: Head,
+    cells: &mut [u32; 128],
+    times: &mut [u64; 64],
+    seats: &mut [u8; 128],
+    waiters: &mut [u64; 256],
+    out: &mut [u8],
+    e: Event,
+    time: u64,
+) -> Answer
+    requires { ⌜ Formed (given head cells times seats waiters) × (enoughRoom ≤ length (now out)) ⌝ }
+    ensures { λ r. ⌜ world (after (r .head) cells times seats waiters) (now (out .exit)) (r .outcome) ≡ step (before head cells times seats waiters) (now (out .entry)) e time ⌝ }
+{
+    match verdict::verdict(head, cells, times, seats, waiters, e, time) {
+        Verdict::Refuse(r) => Answer {
+            head: head,
+            outcome: Outcome::Refused(r),
+        },
+        Verdict::At(i) => {
+            let c = event(head, cells, times, seats, waiters, out, e, time, i);
+            let mut h = c.head;
+            let n = c.count;
+            h.serial = std::num::wrapping_add_u32(head.serial, n);
+            Answer {
+                head: h,
+                outcome: Outcome::Accepted(n),
+            }
+        }
+    }
+}
+
+// Any frame, any output.
+pub fn call(
+    head: Head,
+    cells: &mut [u32; 128],
+    times: &mut [u64; 64],
+    seats: &mut [u8; 128],
+    waiters: &mut [u64; 256],
+    out: &mut [u8],
+    frame: Frame,
+) -> Answer
+    requires { ⌜ Formed (given head cells times seats waiters) ⌝ }
+    ensures { λ r. ⌜ world (after (r .head) cells times seats waiters) (now (out .exit)) (r .outcome) ≡ call (before head cells times seats waiters) (now (out .entry)) frame ⌝ }
+{
+    if out.len() < 8192 {
+        return Answer {
+            head: head,
+            outcome: Outcome::Refused(Refusal::OutputShort),
+        };
+    }
+    match frame {
+        Frame::Good(e, time) => step(head, cells, times, seats, waiters, out, e, time),
+        Frame::Bad => Answer {
+            head: head,
+            outcome: Outcome::Refused(Refusal::Malformed),
+        },
+    }
+}

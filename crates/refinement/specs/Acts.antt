@@ -1,0 +1,184 @@
+-- Each part of the steps, on slots and on lists alike: closed, shelved, lent, turned, created.
+use mathlib.Core.Path.{_≡_, refl, ap, sym, _∙_}
+use mathlib.Core.Bool.{Bool, true, false, true≢false, false≢true}
+use mathlib.Core.List.{List, [], _∷_}
+use Prim.Native.Nat.{ℕ, _+_, _≤_, _<_}
+use native.Mathlib.Omega.{arith}
+use lib.ListN.{getD, length-append}
+use Rattle.definition.specs.Words.{if_then_else_}
+use Rattle.definition.specs.Pool as P
+use Rattle.definition.specs.Pool.{Pool, Conn, find, stateNo}
+use Rattle.definition.specs.Records.{Record, ConnectionClosed}
+use Rattle.definition.specs.Steps as D
+use Rattle.definition.specs.Steps.{Out, Act, nothing, emit, _>>_}
+use Rattle.definition.specs.declared.ClosedReason.{ClosedReason}
+use Rattle.definition.specs.declared.ConnectionState.{ConnectionState}
+use Rattle.definition.specs.declared.ConnectionState.the-variants.{CheckedIn, CheckedOut, Pending}
+use Rattle.definition.specs.declared.Purpose.{Purpose}
+use Rattle.definition.specs.declared.Purpose.the-variants.{Request, Background}
+use Rattle.slots.specs.Order.{place}
+use Rattle.slots.specs.OrderLaws.{place-found}
+use Rattle.slots.specs.View.{SlotPool, Slot}
+use Rattle.slots.specs.Slots as S
+use Rattle.slots.specs.Slots.{vacant}
+use Rattle.refinement.specs.Table.{Fresh, cell, has-it, find-id, one, one-pos, one-zero, taken-put}
+use Rattle.refinement.specs.Kept.{isLent, isPending, kept-put, unlisted, same, into, inIds}
+use Rattle.refinement.specs.Stands.{Alike, Stands, Same}
+use Rattle.refinement.specs.Order.{place-vacant}
+use Rattle.refinement.specs.Transit.{Off, seen, off-lent, off-pending, turn-lent, onto-nothing, onto-lent, onto-back}
+
+-- ── One act after another ──────────────────────────────────────────────────────────────────────────────────────────────
+
+pub same-nothing : {p : SlotPool} {m : Pool} → Stands p m → Same (nothing p) (nothing m)
+same-nothing st = record { records = refl; stands = st }
+
+pub same-emit : (r r' : Record) (p : SlotPool) (m : Pool) → r ≡ r' → Stands p m → Same (emit r p) (emit r' m)
+same-emit r r' p m e st = record { records = ap (λ (x : Record). x ∷ []) e; stands = st }
+
+pub same-then : (a b : Act SlotPool) (a' b' : Act Pool) (p : SlotPool) (m : Pool) → Same (a p) (a' m) → Same (b (a p .pool)) (b' (a' m .pool)) → Same ((a >> b) p) ((a' >> b') m)
+unfolding _>>_
+same-then a b a' b' p m f g = record { records = rw (f .records, g .records); stands = g .stands }
+
+-- acts of which only the records agree so far, and what follows them
+pub same-said : (a b : Act SlotPool) (a' b' : Act Pool) (p : SlotPool) (m : Pool) → a p .records ≡ a' m .records → Same (b (a p .pool)) (b' (a' m .pool)) → Same ((a >> b) p) ((a' >> b') m)
+unfolding _>>_
+same-said a b a' b' p m e g = record { records = rw (e, g .records); stands = g .stands }
+
+-- an act on lists that says nothing
+pub same-silent : (a' b' : Act Pool) (m : Pool) {o : Out SlotPool} → a' m .records ≡ [] → Same o (b' (a' m .pool)) → Same o ((a' >> b') m)
+unfolding _>>_
+same-silent a' b' m e g = record { records = rw e (g .records); stands = g .stands }
+
+-- two tests that are equal lead the same way
+pub same-if : {b b' : Bool} (a₁ a₂ : Act SlotPool) (b₁ b₂ : Act Pool) (p : SlotPool) (m : Pool) → b ≡ b' → (b ≡ true → Same (a₁ p) (b₁ m)) → (b ≡ false → Same (a₂ p) (b₂ m)) → Same ((if b then a₁ else a₂) p) ((if b' then b₁ else b₂) m)
+unfolding if_then_else_
+same-if {b = true} {b' = true} a₁ a₂ b₁ b₂ p m e f g = f refl
+same-if {b = false} {b' = false} a₁ a₂ b₁ b₂ p m e f g = g refl
+same-if {b = true} {b' = false} a₁ a₂ b₁ b₂ p m e f g = absurd (true≢false e)
+same-if {b = false} {b' = true} a₁ a₂ b₁ b₂ p m e f g = absurd (false≢true e)
+
+-- ── In transit ─────────────────────────────────────────────────────────────────────────────────────────────────────────
+
+-- the pool stands for the lists, but the connection of slot i is in none of them
+pub record Transit (p : SlotPool) (m : Pool) (i : ℕ) : Type 0 where
+  pub alike : Alike p m
+  pub off : Off (p .ids) (p .slots) (p .available) (p .availables) (p .total) (p .pendings) (p .nextId) (m .available) (m .lent) (m .pending) i
+
+-- the connections may change
+pub alike-table : {p : SlotPool} {m : Pool} {xs : List ℕ} {ss : List Slot} {order : List ℕ} {n t c : ℕ} {av le pe : List Conn} → Alike p m
+    → Alike (S.withAvailable (S.withCounts (S.withTable p xs ss) t c) order n) (P.withAvailable (P.withLent (P.withPending m pe) le) av)
+alike-table a = record { options = a .options; state = a .state; generation = a .generation; nextId = a .nextId; clock = a .clock; lastRequest = a .lastRequest; serial = a .serial; limits = a .limits; queue = a .queue }
+
+pub closeAt-same : (r : ClosedReason) (i n : ℕ) (p : SlotPool) (m : Pool) → Transit p m i → S.idAt p i ≡ n → Same (S.closeAt r i p) (D.close r n m)
+unfolding S.closeAt _>>_
+closeAt-same r i n p m tr e = record { records = ap (λ (x : ℕ). ConnectionClosed r x ∷ []) e; stands = record { alike = alike-table (tr .alike); table = onto-nothing (tr .off) } }
+
+-- x is the connection of slot i
+abbrev pub Is : SlotPool → ℕ → Conn → Type 0
+Is p i x = (x .id ≡ S.idAt p i) × (x .generation ≡ S.slotAt p i .generation)
+
+pub shelve-same : (i t : ℕ) (x : Conn) (p : SlotPool) (m : Pool) → Transit p m i → Is p i x → Same (S.shelve i t p) (D.shelve x t m)
+unfolding S.shelve D.shelve
+shelve-same i t x p m tr is =
+    let s : Slot = S.turned 1 t (S.slotAt p i) in
+    let e : P.turned CheckedIn t x ≡ record { id = S.idAt p i; generation = s .generation; time = s .time; state = CheckedIn } = rw (is .0, is .1) in
+    record { records = refl; stands = record { alike = alike-table (tr .alike); table = onto-back (tr .off) s (P.turned CheckedIn t x) refl e } }
+
+pub lendOut-same : (i : ℕ) (x : Conn) (p : SlotPool) (m : Pool) → Transit p m i → Is p i x → Same (S.turnAt S.checkedOutNo i p) (D.lendOut x m)
+unfolding S.turnAt D.lendOut
+lendOut-same i x p m tr is =
+    let s : Slot = S.turned 2 (p .clock) (S.slotAt p i) in
+    let e : cell (P.turned CheckedOut (m .clock) x) ≡ s = rw (is .1, tr .alike .clock) in
+    record { records = refl; stands = record { alike = alike-table (tr .alike); table = onto-lent (tr .off) s (P.turned CheckedOut (m .clock) x) refl (is .0) e } }
+
+-- a lent connection, a pending one: it leaves its list
+module _ {p : SlotPool} {m : Pool} (st : Stands p m) (i : ℕ) (low : i < 64) where
+  abbrev n : ℕ
+  n = S.idAt p i
+
+  module _ (h : isLent (S.slotAt p i .state) ≡ true) where
+    pub lent-transit : Transit p (D.leaveLent n m .pool) i
+    unfolding D.leaveLent
+    lent-transit = record { alike = alike-table (st .alike); off = off-lent (st .table) i low h }
+
+    pub lent-cell : (P.has n (m .lent) ≡ true) × (cell (find n (m .lent)) ≡ S.slotAt p i)
+    lent-cell = has-it n (m .lent) (S.slotAt p i) (seen (st .table) i low isLent refl h (st .table .kept .lent))
+
+    pub lent-is : Is p i (find n (m .lent))
+    lent-is = (find-id n (m .lent), ap (λ (x : Slot). x .generation) (lent-cell .1))
+
+    pub repin-same : (q : ConnectionState) → isLent (stateNo q) ≡ true → Same (S.turnAt (stateNo q) i p) (D.repin q n m)
+    unfolding S.turnAt D.repin
+    repin-same q hq = record {
+      records = refl;
+      stands = record { alike = alike-table (st .alike); table = rw (← st .alike .clock) (turn-lent (st .table) i low q (p .clock) hq h) };
+    }
+
+  module _ (h : isPending (S.slotAt p i .state) ≡ true) where
+    pub pending-transit : Transit (S.leavePending p .pool) (D.leavePending n m .pool) i
+    unfolding D.leavePending S.leavePending
+    pending-transit = record { alike = alike-table (st .alike); off = off-pending (st .table) i low h }
+
+    pub pending-cell : (P.has n (m .pending) ≡ true) × (cell (find n (m .pending)) ≡ S.slotAt p i)
+    pending-cell = has-it n (m .pending) (S.slotAt p i) (seen (st .table) i low isPending refl h (st .table .kept .pending))
+
+    pub pending-is : Is p i (find n (m .pending))
+    pending-is = (find-id n (m .pending), ap (λ (x : Slot). x .generation) (pending-cell .1))
+
+-- ── Created ────────────────────────────────────────────────────────────────────────────────────────────────────────────
+
+pub vacancy : {p : SlotPool} {m : Pool} → Stands p m → p .total < 64 → place 0 64 (p .ids) < 64
+vacancy {p} st h =
+    let l = st .table .kept .longIds in
+    rw l at (place-vacant (p .ids) (omega (arith, st .table .holds)))
+
+-- the number of what a connection is pending for
+abbrev pub pendingNo : Purpose → ℕ
+pendingNo why = stateNo (Pending why)
+
+pending-no : (why : Purpose) → isPending (pendingNo why) ≡ true
+pending-no Request = refl
+pending-no Background = refl
+
+not-lent-no : (why : Purpose) → isLent (pendingNo why) ≡ false
+not-lent-no Request = refl
+not-lent-no Background = refl
+
+used-no : (why : Purpose) → (0 < pendingNo why) × (pendingNo why ≤ 6)
+used-no Request = omega arith
+used-no Background = omega arith
+
+pub create-same : (why : Purpose) (p : SlotPool) (m : Pool) → Stands p m → p .total < 64 → Same (S.createPendingConnection (pendingNo why) p) (D.createPendingConnection why m)
+unfolding S.createPendingConnection D.createPendingConnection _>>_
+create-same why p m st h =
+    let low : place 0 64 (p .ids) < 64 = vacancy st h in
+    let tb = st .table in
+    let k = tb .kept in
+    let i = place 0 64 (p .ids) in
+    let n = p .nextId in
+    let s : Slot = record { generation = p .generation; time = p .clock; state = pendingNo why } in
+    let x : Conn = record { id = m .nextId; generation = m .generation; time = m .clock; state = Pending why } in
+    let e : cell x ≡ s = rw (st .alike .generation, st .alike .clock) in
+    let z : getD (p .ids) i 0 ≡ 0 = place-found (λ v. v) 0 64 (p .ids) low in
+    let b : getD (p .slots) i vacant ≡ vacant = k .blank i z in
+    let b0 : getD (p .slots) i vacant .state ≡ 0 = ap (λ (y : Slot). y .state) b in
+    let fr : Fresh (p .ids) i n = λ j a q e. absurd (omega (arith, k .below j, e)) in
+    let zn : 0 < n = omega (arith, k .below i) in
+    let o0 : one (getD (p .ids) i 0) ≡ 0 = ap one z ∙ one-zero in
+    record {
+      records = rw (st .alike .nextId);
+      stands = record {
+        alike = record { options = st .alike .options; state = st .alike .state; generation = st .alike .generation; nextId = ap (λ (y : ℕ). y + 1) (st .alike .nextId); clock = st .alike .clock; lastRequest = st .alike .lastRequest; serial = st .alike .serial; limits = st .alike .limits; queue = st .alike .queue };
+        table = record {
+          kept = kept-put k i low n s (n + 1) (unlisted k i low (λ q. omega arith)) fr (λ q. absurd (omega arith)) (λ _. used-no why) (omega arith) (omega arith)
+              (same k i low isLent n s fr (k .lent) (λ q. absurd (omega arith)) (λ _. not-lent-no why))
+              (into k i low isPending n s fr (k .pending) x (sym (st .alike .nextId)) e zn (λ q. absurd (omega arith)) (pending-no why));
+          room = tb .room;
+          fits = tb .fits;
+          rest = tb .rest;
+          total = rw length-append (omega (arith, tb .total));
+          pendings = rw length-append (omega (arith, tb .pendings));
+          holds = omega (arith, tb .holds, taken-put (p .ids) i n (inIds k i low), o0, one-pos n zn);
+        };
+      };
+    }

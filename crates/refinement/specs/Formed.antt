@@ -1,0 +1,276 @@
+-- What every reached pool is: formed. A fresh pool is formed, a call keeps it formed, and a run of calls answers as the
+-- definition's run does.
+use mathlib.Core.Path.{_≡_, refl, ap, sym, subst, _∙_}
+use mathlib.Core.Bool.{Bool, true, false, true≢false, false≢true, not, _&&_, _||_}
+use mathlib.Core.List.{List, [], _∷_, map}
+use mathlib.Core.Option.{Option, none, some}
+use Prim.Native.Nat.{ℕ, zero, suc, _+_, _≤_}
+use native.Mathlib.Omega.{arith}
+use lib.ListN.{length, getD, replicate, length-replicate, length-append}
+use borrow.Author.Tests.{ltb-false, leb-true}
+use Rattle.definition.specs.Words.{if_then_else_, _<?_, _≤?_, _=?_}
+use Rattle.definition.specs.Pool.{Pool, fresh, inRange, most, isClosed}
+use Rattle.definition.specs.Steps.{_>>_, kindNo}
+use Rattle.definition.specs.Refusals as R
+use Rattle.definition.specs.Refusals.{first, enoughRoom, lastNextId, takenAfterClose, after, run}
+use Rattle.definition.specs.declared.Options.{Options}
+use Rattle.definition.specs.declared.Event.{Event}
+use Rattle.definition.specs.declared.Event.the-variants.{CheckOut, WarmPool, Abandon, CheckIn, Clear, MarkAsReady, Succeeded, SucceededForPool, Failed, Maintenance, FillPool, Pin, ReturnToPinner, TakeFromPinner, Close}
+use Rattle.definition.specs.declared.Frame.{Frame}
+use Rattle.definition.specs.declared.Frame.the-variants.{Good, Bad}
+use Rattle.definition.specs.declared.PoolState.the-variants.{New}
+use Rattle.definition.specs.declared.Refusal.{Refusal}
+use Rattle.definition.specs.declared.Refusal.the-variants.{OutputShort}
+use Rattle.slots.specs.View.{SlotPool, Slot, poolOf, rows}
+use Rattle.slots.specs.declared.Head.{Head}
+use Rattle.slots.specs.Slots as S
+use Rattle.slots.specs.Slots.{vacant}
+use Rattle.slots.specs.Needs.{taken}
+use Rattle.slots.specs.Call as C
+use Rattle.slots.specs.Call.{World, world, target}
+use Rattle.slots.specs.declared.Outcome.{Outcome}
+use Rattle.slots.specs.declared.Outcome.the-variants.{Refused, Accepted}
+use Rattle.refinement.specs.Table.{by-bool, and-both, look-none, lookup, one-zero}
+use Rattle.refinement.specs.Agree.{Class, Agrees, only, only-none}
+use Rattle.refinement.specs.Kept.{isLent, isPending}
+use Rattle.refinement.specs.Stands.{Limits, Stands, Formed}
+use Rattle.refinement.specs.Tests.{Passed, tests-passed}
+use Rattle.refinement.specs.Leaves.{news-most, event-leaves, closed-leaves, close-leaves}
+use Rattle.refinement.specs.Call.{Refines, call-refines, refines-stands}
+
+-- ── A fresh pool ───────────────────────────────────────────────────────────────────────────────────────────────────────
+
+-- all columns are 0
+abbrev pub freshSlots : Options → SlotPool
+freshSlots o = record {
+  options = o;
+  state = New;
+  generation = 0;
+  nextId = 1;
+  clock = 0;
+  lastRequest = 0;
+  serial = 0;
+  total = 0;
+  pendings = 0;
+  availables = 0;
+  waitings = 0;
+  ids = replicate 64 0;
+  slots = replicate 64 vacant;
+  available = replicate 64 0;
+  waiters = replicate 256 0;
+}
+
+-- the parts of a made pool make it
+abbrev pub freshHead : Options → Head
+freshHead o = record {
+  options = o;
+  mode = record { state = New; generation = 0 };
+  «next_connection_id» = 1;
+  clock = 0;
+  «last_request» = 0;
+  serial = 0;
+  «total_connection_count» = 0;
+  «pending_connection_count» = 0;
+  «available_count» = 0;
+  «waiting_count» = 0;
+}
+
+pub fresh-parts : (o : Options) → poolOf (freshHead o) (replicate 128 0) (replicate 64 0) (replicate 128 0) (replicate 256 0) ≡ freshSlots o
+unfolding rows
+fresh-parts o = refl
+
+pub limits-of : (o : Options) → inRange o ≡ true → Limits o
+unfolding inRange
+limits-of o h =
+    let d = and-both _ (o .connecting ≤? most) h in
+    let c = and-both _ (1 ≤? o .connecting) (d .0) in
+    let b = and-both _ (o .minimum ≤? o .maximum) (c .0) in
+    let a = and-both (1 ≤? o .maximum) (o .maximum ≤? most) (b .0) in
+    record { one = leb-true _ _ (a .0); maximum = leb-true _ _ (a .1); minimum = leb-true _ _ (b .1); connecting = (leb-true _ _ (c .1), leb-true _ _ (d .1)) }
+
+zeros : (n j : ℕ) → getD {A = ℕ} (replicate n 0) j 0 ≡ 0
+zeros zero j = refl
+zeros (suc n) zero = refl
+zeros (suc n) (suc j) = zeros n j
+
+vacants : (n j : ℕ) → getD (replicate n vacant) j vacant ≡ vacant
+vacants zero j = refl
+vacants (suc n) zero = refl
+vacants (suc n) (suc j) = vacants n j
+
+untaken : (n : ℕ) → taken (replicate n 0) ≡ 0
+unfolding taken
+untaken zero = refl
+untaken (suc n) = omega (arith, one-zero, untaken n)
+
+nobody : (t : Class) (n : ℕ) (ss : List Slot) → Agrees t (replicate n 0) ss []
+unfolding lookup
+nobody t n ss = record { finds = λ k z. ap (only t) (look-none k (replicate n 0) ss (λ j a e. omega (arith, zeros n j))) ∙ only-none t; named = refl; once = tt }
+
+pub fresh-stands : (o : Options) → inRange o ≡ true → Stands (freshSlots o) (fresh o)
+fresh-stands o h = record {
+  alike = record {
+    options = refl;
+    state = refl;
+    generation = refl;
+    nextId = refl;
+    clock = refl;
+    lastRequest = refl;
+    serial = refl;
+    limits = limits-of o h;
+    queue = record { room = length-replicate {A = ℕ} 256 0; fits = omega arith; waits = refl; rest = λ j a. zeros 256 j; rises = tt };
+  };
+  table = record {
+    kept = record {
+      longIds = length-replicate {A = ℕ} 64 0;
+      longSlots = length-replicate 64 vacant;
+      unique = λ i j a b z e. absurd (omega (arith, zeros 64 i));
+      below = λ j. omega (arith, zeros 64 j);
+      blank = λ j e. vacants 64 j;
+      used = λ j z. absurd (omega (arith, zeros 64 j));
+      listed = tt;
+      distinct = tt;
+      available = refl;
+      lent = nobody isLent 64 (replicate 64 vacant);
+      pending = nobody isPending 64 (replicate 64 vacant);
+    };
+    room = length-replicate {A = ℕ} 64 0;
+    fits = omega arith;
+    rest = λ j a. zeros 64 j;
+    total = refl;
+    pendings = refl;
+    holds = sym (untaken 64);
+  };
+}
+
+pub fresh-formed : (o : Options) → inRange o ≡ true → Formed (freshSlots o)
+fresh-formed o h = record { lists = fresh o; stands = fresh-stands o h; numbers = omega arith }
+
+-- ── A call ─────────────────────────────────────────────────────────────────────────────────────────────────────────────
+
+spent : (c k n g : Bool) → (not c && not k && n || g) ≡ false → c ≡ false → k ≡ false → n ≡ false
+spent true k n g h e q = absurd (true≢false e)
+spent false true n g h e q = absurd (true≢false q)
+spent false false true g h e q = absurd (true≢false h)
+spent false false false g h e q = refl
+
+-- an event of a pool that is open, and that does not close it, finds ids left
+pub ids-left : (p : SlotPool) (e : Event) (now : ℕ) → Passed p e now → isClosed (p .state) ≡ false → (kindNo e =? 15) ≡ false → p .nextId ≤ lastNextId
+ids-left p e now h c k = ltb-false lastNextId (p .nextId) (spent (isClosed (p .state)) (kindNo e =? 15) (lastNextId <? p .nextId) _ (h .numbers) c k)
+
+-- what a closed pool takes
+pub closed-takes : (p : SlotPool) (e : Event) (now : ℕ) → Passed p e now → isClosed (p .state) ≡ true → takenAfterClose e ≡ true
+closed-takes p e now h c = go (isClosed (p .state)) (takenAfterClose e) (h .taken) c
+  where
+    go : (a b : Bool) → (a && not b) ≡ false → a ≡ true → b ≡ true
+    go true true h e = refl
+    go true false h e = absurd (true≢false h)
+    go false b h e = absurd (false≢true e)
+
+is-close : (e : Event) → (kindNo e =? 15) ≡ true → e ≡ Close
+is-close (CheckOut n) h = absurd (false≢true h)
+is-close (WarmPool n) h = absurd (false≢true h)
+is-close (Abandon n) h = absurd (false≢true h)
+is-close (CheckIn n errored executing letGo) h = absurd (false≢true h)
+is-close (Clear timeout cause) h = absurd (false≢true h)
+is-close MarkAsReady h = absurd (false≢true h)
+is-close (Succeeded n) h = absurd (false≢true h)
+is-close (SucceededForPool n opened) h = absurd (false≢true h)
+is-close (Failed n) h = absurd (false≢true h)
+is-close Maintenance h = absurd (false≢true h)
+is-close FillPool h = absurd (false≢true h)
+is-close (Pin n) h = absurd (false≢true h)
+is-close (ReturnToPinner n) h = absurd (false≢true h)
+is-close (TakeFromPinner n) h = absurd (false≢true h)
+is-close Close h = refl
+
+pub event-numbers : (p : SlotPool) (e : Event) (now i : ℕ) → Limits (p .options) → Passed p e now → p .nextId ≤ lastNextId + 65 → S.event e i (S.withClock p now) .pool .nextId ≤ lastNextId + 65
+event-numbers p e now i lim h n =
+    let q = S.withClock p now in
+    by-bool (isClosed (p .state))
+    (λ c. omega (arith, closed-leaves e i q c (closed-takes p e now h c) .next))
+    (λ c. by-bool (kindNo e =? 15)
+    (λ k. subst (λ (x : Event). S.event x i q .pool .nextId ≤ lastNextId + 65) (sym (is-close e k)) (omega (arith, close-leaves i q .next)))
+    (λ k. omega (arith, event-leaves e i q .next, news-most e q, ids-left p e now h c k)))
+
+-- a refused call takes none
+call-numbers : {m : Pool} (p : SlotPool) (l : List ℕ) (f : Frame) → Stands p m → p .nextId ≤ lastNextId + 65 → C.call p l f .pool .nextId ≤ lastNextId + 65
+unfolding C.call C.step C.verdict if_then_else_
+call-numbers p l Bad st n = n
+call-numbers p l (Good e now) st n = go (length l <? enoughRoom) (first (C.tests p e now)) refl
+  where
+    go : (b : Bool) (x : Option Refusal) → first (C.tests p e now) ≡ x → (if b then world p l (Refused OutputShort) else C.judged p l e now (C.orAt (target p e) x)) .pool .nextId ≤ lastNextId + 65
+    go true x h = n
+    go false none h = event-numbers p e now (target p e) (st .alike .limits) (tests-passed st e now h) n
+    go false (some r) h = n
+
+pub call-formed : (p : SlotPool) (l : List ℕ) (f : Frame) → Formed p → Formed (C.call p l f .pool)
+call-formed p l f h = record {
+  lists = after (h .lists) (R.step (h .lists) f (length l)) .pool;
+  stands = refines-stands (R.step (h .lists) f (length l)) (h .stands) (call-refines p (h .lists) (h .stands) f l);
+  numbers = call-numbers p l f (h .stands) (h .numbers);
+}
+
+-- ── A run of calls ─────────────────────────────────────────────────────────────────────────────────────────────────────
+
+-- a frame, and the output that is lent for its records
+pub record Lent : Type 0 where
+  pub frame : Frame
+  pub out : List ℕ
+
+abbrev pub asCall : Lent → R.Call
+asCall c = record { frame = c .frame; room = length (c .out) }
+
+-- the pool that calls leave
+unfoldable pub ran : List Lent → SlotPool → SlotPool
+ran [] p = p
+ran (c ∷ cs) p = ran cs (C.call p (c .out) (c .frame) .pool)
+
+-- how many records they were said to have written
+abbrev pub wrote : Outcome → ℕ
+wrote (Refused r) = 0
+wrote (Accepted n) = n
+
+unfoldable pub writes : List Lent → SlotPool → ℕ
+writes [] p = 0
+writes (c ∷ cs) p = wrote (C.call p (c .out) (c .frame) .outcome) + writes cs (C.call p (c .out) (c .frame) .pool)
+
+-- each call answers as the definition does
+unfoldable pub Answers : List Lent → SlotPool → Pool → Type 0
+Answers [] p m = Unit {0}
+Answers (c ∷ cs) p m =
+    Refines p (c .out) (C.call p (c .out) (c .frame)) (R.step m (c .frame) (length (c .out)))
+    × Answers cs (C.call p (c .out) (c .frame) .pool) (after m (R.step m (c .frame) (length (c .out))) .pool)
+
+-- a run is the definition's run: call by call, in the pool that it leaves, and in the number of records
+pub record Runs (cs : List Lent) (p : SlotPool) (m : Pool) : Type 0 where
+  pub answers : Answers cs p m
+  pub pool : Stands (ran cs p) (run (map asCall cs) m .pool)
+  pub records : writes cs p ≡ length (run (map asCall cs) m .records)
+
+one-wrote : (p : SlotPool) (m : Pool) (l : List ℕ) (w : World) (r : R.Result) → Refines p l w r → wrote (w .outcome) ≡ length (after m r .records)
+one-wrote p m l w (R.Refused x) h = ap (λ (v : World). wrote (v .outcome)) (h .refuses x refl)
+one-wrote p m l w (R.Accepted o) h = ap wrote (h .accepts o refl .outcome)
+
+pub run-refines : (cs : List Lent) (p : SlotPool) (m : Pool) → Stands p m → Runs cs p m
+unfolding ran writes Answers run _>>_
+run-refines [] p m st = record { answers = tt; pool = st; records = refl }
+run-refines (c ∷ cs) p m st =
+    let r = R.step m (c .frame) (length (c .out)) in
+    let one = call-refines p m st (c .frame) (c .out) in
+    let more = run-refines cs (C.call p (c .out) (c .frame) .pool) (after m r .pool) (refines-stands r st one) in
+    record {
+      answers = (one, more .answers);
+      pool = more .pool;
+      records = rw length-append (omega (arith, one-wrote p m (c .out) (C.call p (c .out) (c .frame)) r one, more .records));
+    }
+
+-- and it keeps a pool formed
+pub ran-formed : (cs : List Lent) (p : SlotPool) → Formed p → Formed (ran cs p)
+unfolding ran
+ran-formed [] p h = h
+ran-formed (c ∷ cs) p h = ran-formed cs (C.call p (c .out) (c .frame) .pool) (call-formed p (c .out) (c .frame) h)
+
+-- from the making on
+pub fresh-runs : (o : Options) → inRange o ≡ true → (cs : List Lent) → Runs cs (freshSlots o) (fresh o)
+fresh-runs o h cs = run-refines cs (freshSlots o) (fresh o) (fresh-stands o h)

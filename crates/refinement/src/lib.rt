@@ -1,0 +1,1 @@
+// Nothing runs here: specs/ proves that the slots do what the definition says.

@@ -1,0 +1,60 @@
+use mathlib.Core.Path.{_≡_}
+use Prim.Native.Nat.{_≤_, _-_}
+use native.Mathlib.Omega.{arith}
+use lib.ListN.{getD}
+use Rattle.definition.specs.Words.{_<?_}
+use Rattle.rules.specs.Tests.{every, idsBelow}
+use Rattle.rules.proofs.Laws.{every-more, every-none}
+use borrow.Author.Needs.{needs}
+use Rattle.rules.proofs.ids_below.Statement.{statement}
+use Rattle.rules.proofs.ids_below.Tie as tie
+
+abbrev Inv-loop : tie.InvT-loop
+Inv-loop cells next ok₀ i₀ ok i = (i ≤ 64) × (ok ≡ every i (λ j. getD cells j 0 <? next))
+
+abbrev μ-loop : tie.MeasureT-loop
+μ-loop cells next ok₀ i₀ ok i = 64 - i
+
+loop-holds : tie.Need-loop-holds Inv-loop μ-loop
+loop-holds c = (search needs, every-none _)
+
+mul-below : tie.Need-mul-below Inv-loop μ-loop
+mul-below c = search needs
+
+element-copy-out-below : tie.Need-element-copy-out-below Inv-loop μ-loop
+element-copy-out-below c = search needs
+
+below-requires : tie.Need-below-requires Inv-loop μ-loop
+below-requires c κs = search needs
+
+both-requires : tie.Need-both-requires Inv-loop μ-loop
+both-requires c κs = search needs
+
+add-i : tie.Need-add-i Inv-loop μ-loop
+add-i c = search needs
+
+loop-less : tie.Need-loop-less Inv-loop μ-loop
+loop-less c = search needs
+
+loop-again : tie.Need-loop-again Inv-loop μ-loop
+loop-again c = (search needs, every-more _ _ _ _ _ (c .before .before .before .before .loop .inv .1) (c .before .below .ensures) (c .both .ensures))
+
+returns : tie.Need-returns Inv-loop μ-loop
+unfolding idsBelow
+returns c = let e : c .before .loop .i ≡ 64 = omega arith in rw e at (c .before .loop .inv .1)
+
+pub ids-below-spec : {M : Type 1} → statement M
+ids-below-spec =
+    tie.close
+    (tie.spec
+    Inv-loop
+    μ-loop
+    loop-holds
+    mul-below
+    element-copy-out-below
+    below-requires
+    both-requires
+    add-i
+    loop-less
+    loop-again
+    returns)

@@ -1,0 +1,54 @@
+use mathlib.Core.Path.{_≡_, sym}
+use mathlib.Core.Bool.{false}
+use Prim.Native.Nat.{_≤_, _-_}
+use native.Mathlib.Omega.{arith}
+use Rattle.rules.specs.Tests.{among}
+use Rattle.rules.proofs.Laws.{among-none, among-here, among-more}
+use borrow.Author.Needs.{needs}
+use Rattle.rules.proofs.is_among.Statement.{statement}
+use Rattle.rules.proofs.is_among.Tie as tie
+
+abbrev Inv-loop : tie.InvT-loop
+Inv-loop cells n x i₀ i = (i ≤ n) × (among x i cells ≡ false)
+
+abbrev μ-loop : tie.MeasureT-loop
+μ-loop cells n x i₀ i = n - i
+
+loop-holds : tie.Need-loop-holds Inv-loop μ-loop
+loop-holds c = (search needs, among-none _ _)
+
+mul-if1 : tie.Need-mul-if1 Inv-loop μ-loop
+mul-if1 c = search needs
+
+element-copy-out-if1 : tie.Need-element-copy-out-if1 Inv-loop μ-loop
+element-copy-out-if1 c = search needs
+
+returns : tie.Need-returns Inv-loop μ-loop
+returns c = among-here _ _ (c .before .before .before .loop .i) _ (search needs) (c .if1 .taken)
+
+add-i : tie.Need-add-i Inv-loop μ-loop
+add-i c = search needs
+
+loop-less : tie.Need-loop-less Inv-loop μ-loop
+loop-less c = search needs
+
+loop-again : tie.Need-loop-again Inv-loop μ-loop
+loop-again c = (search needs, among-more _ _ _ (c .before .before .before .loop .inv .1) (c .if1 .left))
+
+returns-2 : tie.Need-returns-2 Inv-loop μ-loop
+returns-2 c = let e : c .before .loop .i ≡ c .before .before .args .n = omega arith in sym (rw e at (c .before .loop .inv .1))
+
+pub is-among-spec : {M : Type 1} → statement M
+is-among-spec =
+    tie.close
+    (tie.spec
+    Inv-loop
+    μ-loop
+    loop-holds
+    mul-if1
+    element-copy-out-if1
+    returns
+    add-i
+    loop-less
+    loop-again
+    returns-2)

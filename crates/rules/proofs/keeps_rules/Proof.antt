@@ -1,0 +1,99 @@
+use mathlib.Core.Path.{refl}
+use native.Mathlib.Omega.{arith}
+use denote.Ref.{now}
+use Rattle.rules.specs.Tests.{keepsRules}
+use Rattle.rules.specs.Exact.{exactly}
+use Rattle.rules.proofs.Laws.{and-is}
+use borrow.Author.Needs.{needs}
+use Rattle.rules.proofs.keeps_rules.Statement.{statement}
+use Rattle.rules.proofs.keeps_rules.Tie as tie
+
+options-fit-requires : tie.Need-options-fit-requires
+options-fit-requires c κs = search needs
+
+both-requires : tie.Need-both-requires
+both-requires c κs = search needs
+
+ids-below-requires : tie.Need-ids-below-requires
+ids-below-requires c κs = search needs
+
+ids-distinct-requires : tie.Need-ids-distinct-requires
+ids-distinct-requires c κs = search needs
+
+slots-fit-requires : tie.Need-slots-fit-requires
+slots-fit-requires c κs = search needs
+
+counts-right-requires : tie.Need-counts-right-requires
+counts-right-requires c κs = search needs
+
+order-right-requires : tie.Need-order-right-requires
+order-right-requires c κs = search needs
+
+order-blank-from-requires : tie.Need-order-blank-from-requires
+order-blank-from-requires c κs = search needs
+
+queue-rises-requires : tie.Need-queue-rises-requires
+queue-rises-requires c κs = search needs
+
+queue-blank-from-requires : tie.Need-queue-blank-from-requires
+queue-blank-from-requires c κs = search needs
+
+both-requires-2 : tie.Need-both-requires-2
+both-requires-2 c κs = search needs
+
+both-requires-3 : tie.Need-both-requires-3
+both-requires-3 c κs = search needs
+
+both-requires-4 : tie.Need-both-requires-4
+both-requires-4 c κs = search needs
+
+both-requires-5 : tie.Need-both-requires-5
+both-requires-5 c κs = search needs
+
+both-requires-6 : tie.Need-both-requires-6
+both-requires-6 c κs = search needs
+
+both-requires-7 : tie.Need-both-requires-7
+both-requires-7 c κs = search needs
+
+both-requires-8 : tie.Need-both-requires-8
+both-requires-8 c κs = search needs
+
+both-requires-9 : tie.Need-both-requires-9
+both-requires-9 c κs = search needs
+
+returns : tie.Need-returns
+unfolding keepsRules
+returns c =
+    let a = c .before .before .before .before .before .before .before .before .before .before .before .before .before .before .before .before .before .before .before .args in
+    exactly (a .head) (now (a .cells)) (now (a .times)) (now (a .seats)) (now (a .waiters)) (c .both9 .result) (c .before .before .before .before .before .before .before .before .before .before .before .before .before .before .before .before .before .before .before .pre) (omega (arith, c .before .before .before .before .before .before .before .before .before .before .before .before .before .before .before .before .before .before .before .good))
+    (and-is (c .both9 .ensures)
+    (and-is (c .before .before .before .before .before .both4 .ensures) (and-is (c .before .before .before .before .before .before .before .before .before .before .before .before .before .before .before .before .both .ensures) (c .before .before .before .before .before .before .before .before .before .before .before .before .before .before .before .before .before .options-fit .ensures) refl)
+    (and-is (c .before .before .before .before .before .before .both3 .ensures) (c .before .before .before .before .before .before .before .before .before .before .before .before .before .before .before .ids-below .ensures) (and-is (c .before .before .before .before .before .before .before .both2 .ensures) (c .before .before .before .before .before .before .before .before .before .before .before .before .before .before .ids-distinct .ensures) (c .before .before .before .before .before .before .before .before .before .before .before .before .before .slots-fit .ensures))))
+    (and-is (c .before .both8 .ensures)
+    (and-is (c .before .before .before .both6 .ensures) (c .before .before .before .before .before .before .before .before .before .before .before .before .counts-right .ensures) (and-is (c .before .before .before .before .both5 .ensures) (c .before .before .before .before .before .before .before .before .before .before .before .order-right .ensures) (c .before .before .before .before .before .before .before .before .before .before .order-blank-from .ensures)))
+    (and-is (c .before .before .both7 .ensures) (c .before .before .before .before .before .before .before .before .before .queue-rises .ensures) (c .before .before .before .before .before .before .before .before .queue-blank-from .ensures))))
+
+pub keeps-rules-spec : {M : Type 1} → statement M
+keeps-rules-spec =
+    tie.close
+    (tie.spec
+    options-fit-requires
+    both-requires
+    ids-below-requires
+    ids-distinct-requires
+    slots-fit-requires
+    counts-right-requires
+    order-right-requires
+    order-blank-from-requires
+    queue-rises-requires
+    queue-blank-from-requires
+    both-requires-2
+    both-requires-3
+    both-requires-4
+    both-requires-5
+    both-requires-6
+    both-requires-7
+    both-requires-8
+    both-requires-9
+    returns)

@@ -1,0 +1,83 @@
+use mathlib.Core.Path.{_≡_}
+use Prim.Native.Nat.{_≤_, _-_, _+_}
+use native.Mathlib.Omega.{arith}
+use lib.ListN.{getD}
+use Rattle.rules.specs.Tests.{every, slotFits, slotsFit}
+use Rattle.rules.proofs.Laws.{every-more, every-none}
+use borrow.Author.Needs.{needs}
+use Rattle.rules.proofs.slots_fit.Statement.{statement}
+use Rattle.rules.proofs.slots_fit.Tie as tie
+
+abbrev Inv-loop : tie.InvT-loop
+Inv-loop cells times seats ok₀ i₀ ok i = (i ≤ 64) × (ok ≡ every i (λ j. slotFits (getD cells j 0) (getD cells (64 + j) 0) (getD times j 0) (getD seats j 0)))
+
+abbrev μ-loop : tie.MeasureT-loop
+μ-loop cells times seats ok₀ i₀ ok i = 64 - i
+
+loop-holds : tie.Need-loop-holds Inv-loop μ-loop
+loop-holds c = (search needs, every-none _)
+
+mul-slot-fits : tie.Need-mul-slot-fits Inv-loop μ-loop
+mul-slot-fits c = search needs
+
+element-copy-out-slot-fits : tie.Need-element-copy-out-slot-fits Inv-loop μ-loop
+element-copy-out-slot-fits c = search needs
+
+add-slot-fits : tie.Need-add-slot-fits Inv-loop μ-loop
+add-slot-fits c = search needs
+
+mul-slot-fits-2 : tie.Need-mul-slot-fits-2 Inv-loop μ-loop
+mul-slot-fits-2 c = search needs
+
+element-copy-out-slot-fits-2 : tie.Need-element-copy-out-slot-fits-2 Inv-loop μ-loop
+element-copy-out-slot-fits-2 c = search needs
+
+mul-slot-fits-3 : tie.Need-mul-slot-fits-3 Inv-loop μ-loop
+mul-slot-fits-3 c = search needs
+
+element-copy-out-slot-fits-3 : tie.Need-element-copy-out-slot-fits-3 Inv-loop μ-loop
+element-copy-out-slot-fits-3 c = search needs
+
+element-copy-out-slot-fits-4 : tie.Need-element-copy-out-slot-fits-4 Inv-loop μ-loop
+element-copy-out-slot-fits-4 c = search needs
+
+slot-fits-requires : tie.Need-slot-fits-requires Inv-loop μ-loop
+slot-fits-requires c κs = search needs
+
+both-requires : tie.Need-both-requires Inv-loop μ-loop
+both-requires c κs = search needs
+
+add-i : tie.Need-add-i Inv-loop μ-loop
+add-i c = search needs
+
+loop-less : tie.Need-loop-less Inv-loop μ-loop
+loop-less c = search needs
+
+loop-again : tie.Need-loop-again Inv-loop μ-loop
+loop-again c = (search needs, every-more _ _ _ _ _ (c .before .before .before .before .before .before .before .loop .inv .1) (c .before .slot-fits .ensures) (c .both .ensures))
+
+returns : tie.Need-returns Inv-loop μ-loop
+unfolding slotsFit
+returns c = let e : c .before .loop .i ≡ 64 = omega arith in rw e at (c .before .loop .inv .1)
+
+pub slots-fit-spec : {M : Type 1} → statement M
+slots-fit-spec =
+    tie.close
+    (tie.spec
+    Inv-loop
+    μ-loop
+    loop-holds
+    mul-slot-fits
+    element-copy-out-slot-fits
+    add-slot-fits
+    mul-slot-fits-2
+    element-copy-out-slot-fits-2
+    mul-slot-fits-3
+    element-copy-out-slot-fits-3
+    element-copy-out-slot-fits-4
+    slot-fits-requires
+    both-requires
+    add-i
+    loop-less
+    loop-again
+    returns)

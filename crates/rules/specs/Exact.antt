@@ -1,0 +1,340 @@
+-- The structure test accepts exactly the pools that keep the rules, which are the formed ones.
+use mathlib.Core.Path.{_≡_, refl, sym, ap, _∙_}
+use mathlib.Core.Bool.{Bool, true, false, not, _&&_, false≢true}
+use mathlib.Core.List.{List, map}
+use Prim.Native.Nat.{ℕ, zero, suc, _+_, _/_, _≤_, _<_}
+use native.Mathlib.Omega.{arith}
+use lib.ListN.{length, getD, take, drop}
+use lib.Seq.{getD-take, length-take-le}
+use borrow.Author.Tests.{lt-ltb, le-ltb, le-leb, eq-eqb, ne-eqb, ltb-true, leb-true, eqb-true}
+use Rattle.definition.specs.Words.{if_then_else_, _=?_, _<?_, _≤?_}
+use Rattle.definition.specs.Pool.{inRange, most}
+use Rattle.definition.specs.Refusals.{lastNextId}
+use Rattle.definition.specs.declared.Options.{Options}
+use Rattle.slots.specs.declared.Head.{Head}
+use Rattle.slots.specs.View.{SlotPool, Slot, poolOf, Whole, waiterOf}
+use Rattle.slots.specs.Slots as S
+use Rattle.slots.specs.Slots.{vacant}
+use Rattle.slots.specs.Needs.{taken}
+use Rattle.slots.specs.Parts.{slot-at}
+use Rattle.refinement.specs.Table.{by-eq, by-lt, Unique}
+use Rattle.refinement.specs.Agree.{Class}
+use Rattle.refinement.specs.Kept.{isPending, All, Distinct, Listed, Used, all-at}
+use Rattle.refinement.specs.Stands.{Limits, Rises, Formed}
+use Rattle.refinement.specs.Formed.{limits-of}
+use Rattle.refinement.specs.Rules.{Rules, isShelved, many, rules-formed, formed-rules}
+use Rattle.rules.specs.Tests.{every, tally, among, isTaken, blankPast, slotFits, before, waiterFits, idsBelow, newId, idsDistinct, slotsFit, howMany, countsRight, listedAt, orderRight, blankFrom, queueRises, keepsRules}
+use Rattle.rules.specs.Every.{and-left, and-right, both-true, or-right, every-all, all-every, not-among, new-among, all-of, distinct-of, distinct-has, past, tally-same, kinds, many-tally, taken-tally, rises-of, rises-at}
+
+-- ── Options ────────────────────────────────────────────────────────────────────────────────────────────────────────────
+
+options-pass : (o : Options) → Limits o → inRange o ≡ true
+unfolding inRange
+options-pass o l =
+    both-true (both-true (both-true (both-true (le-leb 1 (o .maximum) (l .one)) (le-leb (o .maximum) most (l .maximum))) (le-leb (o .minimum) (o .maximum) (l .minimum))) (le-leb 1 (o .connecting) (l .connecting .0))) (le-leb (o .connecting) most (l .connecting .1))
+
+-- ── Ids ────────────────────────────────────────────────────────────────────────────────────────────────────────────────
+
+module _ (cs : List ℕ) (l : length (take 64 cs) ≡ 64) where
+  below-say : (next : ℕ) → idsBelow cs next ≡ true → (j : ℕ) → getD (take 64 cs) j 0 < next
+  unfolding idsBelow
+  below-say next h j =
+      let at : (i : ℕ) → i < 64 → getD cs i 0 < next = λ i k. ltb-true (getD cs i 0) next (every-all 64 (λ i. getD cs i 0 <? next) h i k) in
+      by-lt j 64 (λ k. omega (arith, getD-take 64 cs j 0 k, at j k)) (λ k. omega (arith, past (take 64 cs) 0 j (omega arith), at 0 (omega arith)))
+
+  below-pass : (next : ℕ) → ((j : ℕ) → getD (take 64 cs) j 0 < next) → idsBelow cs next ≡ true
+  unfolding idsBelow
+  below-pass next h = all-every 64 (λ i. getD cs i 0 <? next) (λ j k. lt-ltb (getD cs j 0) next (omega (arith, getD-take 64 cs j 0 k, h j)))
+
+  new-say : idsDistinct cs ≡ true → (i j : ℕ) → i < j → j < 64 → 0 < getD cs j 0 → getD cs i 0 ≡ getD cs j 0 → ⊥
+  unfolding idsDistinct
+  new-say h i j k low z e =
+      let n : getD cs j 0 ≡ 0 → ⊥ = λ q. omega arith in
+      not-among (getD cs j 0) j cs (or-right (getD cs j 0 =? 0) (not (among (getD cs j 0) j cs)) (ne-eqb (getD cs j 0) 0 n) (every-all 64 (newId cs) h j low)) i k e
+
+  distinct-say : idsDistinct cs ≡ true → Unique (take 64 cs)
+  distinct-say h i j a b z e =
+      let x = getD-take 64 cs i 0 (omega arith) in
+      let y = getD-take 64 cs j 0 (omega arith) in
+      let s : getD cs i 0 ≡ getD cs j 0 = sym x ∙ e ∙ y in
+      by-eq i j (λ q. q) (λ q. by-lt i j (λ k. absurd (new-say h i j k (omega arith) (omega (arith, x)) s)) (λ k. absurd (new-say h j i (omega (arith, q)) (omega arith) (omega (arith, x)) (sym s))))
+
+  distinct-pass : Unique (take 64 cs) → idsDistinct cs ≡ true
+  unfolding idsDistinct
+  distinct-pass u = all-every 64 (newId cs) (λ i k. by-eq (getD cs i 0) 0
+      (λ z. rw (eq-eqb (getD cs i 0) 0 z))
+      (λ z. rw (ne-eqb (getD cs i 0) 0 z) (new-among (getD cs i 0) i cs (λ j m e.
+      let x = getD-take 64 cs i 0 k in
+      let y = getD-take 64 cs j 0 (omega arith) in
+      omega (arith, u i j (omega arith) (omega arith) (omega (arith, z, x)) (x ∙ sym e ∙ sym y))))))
+
+-- ── Slots ──────────────────────────────────────────────────────────────────────────────────────────────────────────────
+
+made : (g t k : ℕ) → g ≡ 0 → t ≡ 0 → k ≡ 0 → _≡_ {A = Slot} (record { generation = g; time = t; state = k }) vacant
+made g t k a b c = rw (a, b, c)
+
+fits-vacant : (id g t k : ℕ) → id ≡ 0 → slotFits id g t k ≡ (k =? 0 && (g =? 0 && t =? 0))
+unfolding slotFits if_then_else_
+fits-vacant id g t k e = rw (eq-eqb id 0 e)
+
+fits-used : (id g t k : ℕ) → 0 < id → slotFits id g t k ≡ (1 ≤? k && k ≤? 6)
+unfolding slotFits if_then_else_
+fits-used id g t k z = let n : id ≡ 0 → ⊥ = λ q. omega arith in rw (ne-eqb id 0 n)
+
+vacant-say : (id g t k : ℕ) → id ≡ 0 → slotFits id g t k ≡ true → _≡_ {A = Slot} (record { generation = g; time = t; state = k }) vacant
+vacant-say id g t k e h =
+    let f : (k =? 0 && (g =? 0 && t =? 0)) ≡ true = sym (fits-vacant id g t k e) ∙ h in
+    let r = and-right (k =? 0) (g =? 0 && t =? 0) f in
+    made g t k (eqb-true g 0 (and-left (g =? 0) (t =? 0) r)) (eqb-true t 0 (and-right (g =? 0) (t =? 0) r)) (eqb-true k 0 (and-left (k =? 0) (g =? 0 && t =? 0) f))
+
+used-say : (id g t k : ℕ) → 0 < id → slotFits id g t k ≡ true → (0 < k) × (k ≤ 6)
+used-say id g t k z h =
+    let f : (1 ≤? k && k ≤? 6) ≡ true = sym (fits-used id g t k z) ∙ h in
+    (omega (arith, leb-true 1 k (and-left (1 ≤? k) (k ≤? 6) f)), leb-true k 6 (and-right (1 ≤? k) (k ≤? 6) f))
+
+module _ (h : Head) (cs ts ss ws : List ℕ) (w : Whole (poolOf h cs ts ss ws)) where
+  abbrev P : SlotPool
+  P = poolOf h cs ts ss ws
+
+  id-of : (j : ℕ) → j < 64 → S.idAt P j ≡ getD cs j 0
+  id-of j low = getD-take 64 cs j 0 low
+
+  state-of : (j : ℕ) → j < 64 → S.slotAt P j .state ≡ getD ss j 0
+  state-of j low = ap (λ (s : Slot). s .state) (slot-at h cs ts ss ws w j low)
+
+  fit-at : slotsFit cs ts ss ≡ true → (j : ℕ) → j < 64 → slotFits (getD cs j 0) (getD cs (64 + j) 0) (getD ts j 0) (getD ss j 0) ≡ true
+  unfolding slotsFit
+  fit-at f = every-all 64 (λ i. slotFits (getD cs i 0) (getD cs (64 + i) 0) (getD ts i 0) (getD ss i 0)) f
+
+  slots-blank : slotsFit cs ts ss ≡ true → (j : ℕ) → S.idAt P j ≡ 0 → S.slotAt P j ≡ vacant
+  slots-blank f j e =
+      by-lt j 64
+      (λ k. slot-at h cs ts ss ws w j k ∙ vacant-say (getD cs j 0) (getD cs (64 + j) 0) (getD ts j 0) (getD ss j 0) (sym (id-of j k) ∙ e) (fit-at f j k))
+      (λ k. past (P .slots) vacant j (omega (arith, w .slots)))
+
+  slots-used : slotsFit cs ts ss ≡ true → (j : ℕ) → 0 < S.idAt P j → Used (S.slotAt P j)
+  slots-used f j z =
+      by-lt j 64
+      (λ k. let r = used-say (getD cs j 0) (getD cs (64 + j) 0) (getD ts j 0) (getD ss j 0) (omega (arith, id-of j k)) (fit-at f j k) in (omega (arith, state-of j k, r .0), omega (arith, state-of j k, r .1)))
+      (λ k. absurd (omega (arith, past (P .ids) 0 j (omega (arith, w .ids)))))
+
+  slots-pass : ((j : ℕ) → S.idAt P j ≡ 0 → S.slotAt P j ≡ vacant) → ((j : ℕ) → 0 < S.idAt P j → Used (S.slotAt P j)) → slotsFit cs ts ss ≡ true
+  unfolding slotsFit
+  slots-pass b u = all-every 64 (λ i. slotFits (getD cs i 0) (getD cs (64 + i) 0) (getD ts i 0) (getD ss i 0)) (λ j k.
+      let g = getD cs (64 + j) 0 in
+      let t = getD ts j 0 in
+      let s = getD ss j 0 in
+      by-eq (getD cs j 0) 0
+      (λ e. let v : _≡_ {A = Slot} (record { generation = g; time = t; state = s }) vacant = sym (slot-at h cs ts ss ws w j k) ∙ b j (id-of j k ∙ e) in
+      fits-vacant (getD cs j 0) g t s e ∙ both-true (eq-eqb s 0 (ap (λ (x : Slot). x .state) v)) (both-true (eq-eqb g 0 (ap (λ (x : Slot). x .generation) v)) (eq-eqb t 0 (ap (λ (x : Slot). x .time) v))))
+      (λ e. let r = u j (omega (arith, e, id-of j k)) in
+      fits-used (getD cs j 0) g t s (omega (arith, e)) ∙ both-true (le-leb 1 s (omega (arith, state-of j k, r .0))) (le-leb s 6 (omega (arith, state-of j k, r .1)))))
+
+  -- ── Counts ──
+
+  states : (t : Class) → howMany t ss ≡ tally (length (P .ids)) (kinds t (P .slots))
+  states t = tally-same 64 (λ i. t (getD ss i 0)) (kinds t (P .slots)) (λ j k. ap t (sym (state-of j k))) ∙ ap (λ (n : ℕ). tally n (kinds t (P .slots))) (sym (w .ids))
+
+  module _ (b : (j : ℕ) → S.idAt P j ≡ 0 → S.slotAt P j ≡ vacant) where
+    how-many : (t : Class) → t 0 ≡ false → howMany t ss ≡ many t (P .ids) (P .slots)
+    how-many t f = states t ∙ sym (many-tally t (P .ids) (P .slots) (omega (arith, w .ids, w .slots)) (λ j e. ap (λ (s : Slot). t (s .state)) (b j e) ∙ f))
+
+    how-taken : ((j : ℕ) → 0 < S.idAt P j → Used (S.slotAt P j)) → howMany isTaken ss ≡ taken (P .ids)
+    how-taken u = states isTaken ∙ sym (taken-tally (P .ids) (P .slots) (omega (arith, w .ids, w .slots))
+        (λ j e. ap (λ (s : Slot). isTaken (s .state)) (b j e))
+        (λ j z. ap not (ne-eqb (S.slotAt P j .state) 0 (λ q. omega (arith, u j z .0)))))
+
+  -- ── The order list ──
+
+  order-fits : orderRight (drop 64 ss) ss (h .«available_count») ≡ true → h .«available_count» ≤ 64
+  unfolding orderRight
+  order-fits t = leb-true (h .«available_count») 64 (and-left (h .«available_count» ≤? 64) (every (h .«available_count») (listedAt (drop 64 ss) ss)) t)
+
+  order-at : orderRight (drop 64 ss) ss (h .«available_count») ≡ true → (j : ℕ) → j < h .«available_count» → listedAt (drop 64 ss) ss j ≡ true
+  unfolding orderRight
+  order-at t = every-all (h .«available_count») (listedAt (drop 64 ss) ss) (and-right (h .«available_count» ≤? 64) (every (h .«available_count») (listedAt (drop 64 ss) ss)) t)
+
+  order-long : h .«available_count» ≤ 64 → length (take (h .«available_count») (drop 64 ss)) ≡ h .«available_count»
+  order-long f = length-take-le (h .«available_count») (drop 64 ss) (omega (arith, w .available))
+
+  order-listed : ((j : ℕ) → S.idAt P j ≡ 0 → S.slotAt P j ≡ vacant) → orderRight (drop 64 ss) ss (h .«available_count») ≡ true → All (Listed (P .ids) (P .slots)) (take (h .«available_count») (drop 64 ss))
+  order-listed b t =
+      let n = h .«available_count» in
+      let a = drop 64 ss in
+      all-of (Listed (P .ids) (P .slots)) (take n a) (λ j k.
+      let low : j < n = omega (arith, order-long (order-fits t)) in
+      let e = getD a j 0 in
+      let q = order-at t j low in
+      let r = and-right (e <? 64) (isShelved (getD ss e 0) && not (among e j a)) q in
+      let i : e < 64 = ltb-true e 64 (and-left (e <? 64) (isShelved (getD ss e 0) && not (among e j a)) q) in
+      let s : S.slotAt P e .state ≡ 1 = state-of e i ∙ eqb-true (getD ss e 0) 1 (and-left (isShelved (getD ss e 0)) (not (among e j a)) r) in
+      rw (getD-take n a j 0 low) (i, by-eq (S.idAt P e) 0 (λ z. absurd (omega (arith, s, ap (λ (x : Slot). x .state) (b e z)))) (λ z. omega (arith, z)), s))
+
+  order-distinct : orderRight (drop 64 ss) ss (h .«available_count») ≡ true → Distinct (take (h .«available_count») (drop 64 ss))
+  order-distinct t =
+      let n = h .«available_count» in
+      let a = drop 64 ss in
+      distinct-of (take n a) (λ i j k m e.
+      let low : j < n = omega (arith, order-long (order-fits t)) in
+      let x = getD a j 0 in
+      let r = and-right (x <? 64) (isShelved (getD ss x 0) && not (among x j a)) (order-at t j low) in
+      not-among x j a (and-right (isShelved (getD ss x 0)) (not (among x j a)) r) i k (sym (getD-take n a i 0 (omega arith)) ∙ e ∙ getD-take n a j 0 low))
+
+  order-pass : h .«available_count» ≤ 64 → All (Listed (P .ids) (P .slots)) (take (h .«available_count») (drop 64 ss)) → Distinct (take (h .«available_count») (drop 64 ss)) → orderRight (drop 64 ss) ss (h .«available_count») ≡ true
+  unfolding orderRight
+  order-pass f al d =
+      let n = h .«available_count» in
+      let a = drop 64 ss in
+      both-true (le-leb n 64 f) (all-every n (listedAt a ss) (λ j low.
+      let k : j < length (take n a) = omega (arith, order-long f) in
+      let v : Listed (P .ids) (P .slots) (getD a j 0) = rw (getD-take n a j 0 low) at (all-at (Listed (P .ids) (P .slots)) (take n a) al j k) in
+      both-true (lt-ltb (getD a j 0) 64 (v .0)) (both-true (eq-eqb (getD ss (getD a j 0) 0) 1 (sym (state-of (getD a j 0) (v .0)) ∙ v .2)) (new-among (getD a j 0) j a (λ i q e.
+      distinct-has (take n a) d i j q k (getD-take n a i 0 (omega arith) ∙ e ∙ sym (getD-take n a j 0 low)))))))
+
+counts-say : (ss : List ℕ) (total pending available : ℕ) → countsRight ss total pending available ≡ true
+    → (howMany isTaken ss ≡ total) × (howMany isPending ss ≡ pending) × (howMany isShelved ss ≡ available)
+unfolding countsRight
+counts-say ss t p a h =
+    let r = and-right (howMany isTaken ss =? t) (howMany isPending ss =? p && howMany isShelved ss =? a) h in (
+      eqb-true (howMany isTaken ss) t (and-left (howMany isTaken ss =? t) (howMany isPending ss =? p && howMany isShelved ss =? a) h),
+      eqb-true (howMany isPending ss) p (and-left (howMany isPending ss =? p) (howMany isShelved ss =? a) r),
+      eqb-true (howMany isShelved ss) a (and-right (howMany isPending ss =? p) (howMany isShelved ss =? a) r),
+    )
+
+counts-pass : (ss : List ℕ) (total pending available : ℕ) → howMany isTaken ss ≡ total → howMany isPending ss ≡ pending → howMany isShelved ss ≡ available → countsRight ss total pending available ≡ true
+unfolding countsRight
+counts-pass ss t p a x y z = both-true (eq-eqb (howMany isTaken ss) t x) (both-true (eq-eqb (howMany isPending ss) p y) (eq-eqb (howMany isShelved ss) a z))
+
+-- ── Cells past a count ─────────────────────────────────────────────────────────────────────────────────────────────────
+
+blank-say : (size n : ℕ) (l : List ℕ) → length l ≡ size → blankFrom size n l ≡ true → (j : ℕ) → n ≤ j → getD l j 0 ≡ 0
+unfolding blankFrom
+blank-say size n l e h j k =
+    by-lt j size
+    (λ q. eqb-true (getD l j 0) 0 (or-right (j <? n) (getD l j 0 =? 0) (le-ltb j n k) (every-all size (λ i. blankPast n i (getD l i 0)) h j q)))
+    (λ q. past l 0 j (omega arith))
+
+blank-pass : (size n : ℕ) (l : List ℕ) → ((j : ℕ) → n ≤ j → getD l j 0 ≡ 0) → blankFrom size n l ≡ true
+unfolding blankFrom
+blank-pass size n l h = all-every size (λ i. blankPast n i (getD l i 0)) (λ j k. by-lt j n (λ q. rw (lt-ltb j n q)) (λ q. rw (le-ltb j n q) (eq-eqb (getD l j 0) 0 (h j q))))
+
+-- ── The queue ──────────────────────────────────────────────────────────────────────────────────────────────────────────
+
+before-take : (b n : ℕ) (l : List ℕ) (j : ℕ) → j < n → before b (take n l) j ≡ before b l j
+before-take b n l zero h = refl
+before-take b n l (suc j) h = ap (λ (x : ℕ). x / 4) (getD-take n l j 0 (omega arith))
+
+module _ (ws : List ℕ) (n last : ℕ) (l : length ws ≡ 256) where
+  queue-fits : queueRises ws n last ≡ true → n ≤ 256
+  unfolding queueRises
+  queue-fits h = leb-true n 256 (and-left (n ≤? 256) (every n (λ i. waiterFits (before 0 ws i) (getD ws i 0 / 4) last)) h)
+
+  queue-long : n ≤ 256 → length (take n ws) ≡ n
+  queue-long h = length-take-le n ws (omega arith)
+
+  queue-say : queueRises ws n last ≡ true → Rises 0 last (map waiterOf (take n ws))
+  unfolding queueRises
+  queue-say h = rises-of 0 last (take n ws) (λ j k.
+      let f : n ≤ 256 = leb-true n 256 (and-left (n ≤? 256) (every n (λ i. waiterFits (before 0 ws i) (getD ws i 0 / 4) last)) h) in
+      let low : j < n = omega (arith, queue-long f) in
+      let x = getD ws j 0 / 4 in
+      let t = every-all n (λ i. waiterFits (before 0 ws i) (getD ws i 0 / 4) last) (and-right (n ≤? 256) (every n (λ i. waiterFits (before 0 ws i) (getD ws i 0 / 4) last)) h) j low in
+      rw (before-take 0 n ws j low, getD-take n ws j 0 low) (ltb-true (before 0 ws j) x (and-left (before 0 ws j <? x) (x ≤? last) t), leb-true x last (and-right (before 0 ws j <? x) (x ≤? last) t)))
+
+  queue-pass : n ≤ 256 → Rises 0 last (map waiterOf (take n ws)) → queueRises ws n last ≡ true
+  unfolding queueRises
+  queue-pass f r = both-true (le-leb n 256 f) (all-every n (λ i. waiterFits (before 0 ws i) (getD ws i 0 / 4) last) (λ j low.
+      let v : (before 0 ws j < getD ws j 0 / 4) × (getD ws j 0 / 4 ≤ last) = rw (before-take 0 n ws j low, getD-take n ws j 0 low) at (rises-at 0 last (take n ws) r j (omega (arith, queue-long f))) in
+      both-true (lt-ltb (before 0 ws j) (getD ws j 0 / 4) (v .0)) (le-leb (getD ws j 0 / 4) last (v .1))))
+
+-- ── All of them ────────────────────────────────────────────────────────────────────────────────────────────────────────
+
+ten : (a b c d e f g i j k : Bool) → (((a && b) && (c && (d && e))) && ((f && (g && i)) && (j && k))) ≡ true
+    → (a ≡ true) × (b ≡ true) × (c ≡ true) × (d ≡ true) × (e ≡ true) × (f ≡ true) × (g ≡ true) × (i ≡ true) × (j ≡ true) × (k ≡ true)
+ten a b c d e f g i j k q =
+    let x = and-left ((a && b) && (c && (d && e))) ((f && (g && i)) && (j && k)) q in
+    let y = and-right ((a && b) && (c && (d && e))) ((f && (g && i)) && (j && k)) q in
+    let ab = and-left (a && b) (c && (d && e)) x in
+    let ce = and-right (a && b) (c && (d && e)) x in
+    let de = and-right c (d && e) ce in
+    let fi = and-left (f && (g && i)) (j && k) y in
+    let jk = and-right (f && (g && i)) (j && k) y in
+    let gi = and-right f (g && i) fi in
+    (and-left a b ab, and-right a b ab, and-left c (d && e) ce, and-left d e de, and-right d e de, and-left f (g && i) fi, and-left g i gi, and-right g i gi, and-left j k jk, and-right j k jk)
+
+module _ (h : Head) (cs ts ss ws : List ℕ) (w : Whole (poolOf h cs ts ss ws)) where
+  -- what passes the test keeps the rules
+  pub sound : h .serial < 4294967296 → keepsRules h cs ts ss ws ≡ true → Rules (poolOf h cs ts ss ws)
+  unfolding keepsRules
+  sound low q =
+      let next = h .«next_connection_id» in
+      let n = h .«available_count» in
+      let m = h .«waiting_count» in
+      let t = ten (inRange (h .options)) (next ≤? lastNextId + 65) (idsBelow cs next) (idsDistinct cs) (slotsFit cs ts ss)
+      (countsRight ss (h .«total_connection_count») (h .«pending_connection_count») n) (orderRight (drop 64 ss) ss n) (blankFrom 64 n (drop 64 ss)) (queueRises ws m (h .«last_request»)) (blankFrom 256 m ws) q in
+      let b = slots-blank h cs ts ss ws w (t .4) in
+      let u = slots-used h cs ts ss ws w (t .4) in
+      let c = counts-say ss (h .«total_connection_count») (h .«pending_connection_count») n (t .5) in
+      record {
+        limits = limits-of (h .options) (t .0);
+        columns = w;
+        unique = distinct-say cs (w .ids) (t .3);
+        below = below-say cs (w .ids) next (t .2);
+        blank = b;
+        used = u;
+        fits = order-fits h cs ts ss ws w (t .6);
+        listed = order-listed h cs ts ss ws w b (t .6);
+        distinct = order-distinct h cs ts ss ws w (t .6);
+        rest = blank-say 64 n (drop 64 ss) (w .available) (t .7);
+        shelved = sym (c .2) ∙ how-many h cs ts ss ws w b isShelved refl;
+        pending = sym (c .1) ∙ how-many h cs ts ss ws w b isPending refl;
+        total = sym (c .0) ∙ how-taken h cs ts ss ws w b u;
+        queue = queue-fits ws m (h .«last_request») (w .waiters) (t .8);
+        queueRest = blank-say 256 m ws (w .waiters) (t .9);
+        rises = queue-say ws m (h .«last_request») (w .waiters) (t .8);
+        serial = low;
+        numbers = leb-true next (lastNextId + 65) (t .1);
+      }
+
+  -- what keeps the rules passes the test
+  pub complete : Rules (poolOf h cs ts ss ws) → keepsRules h cs ts ss ws ≡ true
+  unfolding keepsRules
+  complete r =
+      let next = h .«next_connection_id» in
+      let n = h .«available_count» in
+      let m = h .«waiting_count» in
+      both-true
+      (both-true
+      (both-true (options-pass (h .options) (r .limits)) (le-leb next (lastNextId + 65) (r .numbers)))
+      (both-true (below-pass cs (w .ids) next (r .below)) (both-true (distinct-pass cs (w .ids) (r .unique)) (slots-pass h cs ts ss ws w (r .blank) (r .used)))))
+      (both-true
+      (both-true
+      (counts-pass ss (h .«total_connection_count») (h .«pending_connection_count») n
+      (how-taken h cs ts ss ws w (r .blank) (r .used) ∙ sym (r .total))
+      (how-many h cs ts ss ws w (r .blank) isPending refl ∙ sym (r .pending))
+      (how-many h cs ts ss ws w (r .blank) isShelved refl ∙ sym (r .shelved)))
+      (both-true (order-pass h cs ts ss ws w (r .fits) (r .listed) (r .distinct)) (blank-pass 64 n (drop 64 ss) (r .rest))))
+      (both-true (queue-pass ws m (h .«last_request») (w .waiters) (r .queue) (r .rises)) (blank-pass 256 m ws (r .queueRest))))
+
+-- ── What the test says ─────────────────────────────────────────────────────────────────────────────────────────────────
+
+-- r says whether p keeps the rules
+pub record Exactly (r : Bool) (p : SlotPool) : Type 0 where
+  pub sound : r ≡ true → Rules p
+  pub complete : Rules p → r ≡ true
+
+pub exactly : (h : Head) (cs ts ss ws : List ℕ) (r : Bool) → Whole (poolOf h cs ts ss ws) → h .serial < 4294967296 → r ≡ keepsRules h cs ts ss ws → Exactly r (poolOf h cs ts ss ws)
+exactly h cs ts ss ws r w low e = record {
+  sound = λ q. sound h cs ts ss ws w low (sym e ∙ q);
+  complete = λ k. e ∙ complete h cs ts ss ws w k;
+}
+
+-- which is: whether p is formed
+pub accepted-formed : {r : Bool} {p : SlotPool} → Exactly r p → r ≡ true → Formed p
+accepted-formed {r} {p} x e = rules-formed p (x .sound e)
+
+pub formed-accepted : {r : Bool} {p : SlotPool} → Exactly r p → Formed p → r ≡ true
+formed-accepted {r} {p} x f = x .complete (formed-rules p f)
+
+pub refused-unformed : {r : Bool} {p : SlotPool} → Exactly r p → r ≡ false → Formed p → ⊥
+refused-unformed x e f = false≢true (sym e ∙ formed-accepted x f)

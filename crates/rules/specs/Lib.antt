@@ -1,0 +1,4 @@
+pub mod Tests
+pub mod Every
+pub mod Exact
+pub mod Reached

@@ -1,0 +1,305 @@
+// The structure test: whether a pool keeps the rules, which is whether it stands for some lists of the definition.
+ghost use mathlib.Core.Path.{_≡_};
+ghost use mathlib.Core.Bool.{_&&_, not};
+ghost use Prim.Native.Nat.{_≤_};
+ghost use lib.ListN.{drop};
+ghost use Rattle.definition.specs.Words.{_=?_, _<?_};
+ghost use Rattle.definition.specs.Pool.{inRange};
+ghost use Rattle.slots.specs.View.{Whole, given, before};
+ghost use Rattle.refinement.specs.Kept.{isPending};
+ghost use Rattle.refinement.specs.Rules.{isShelved};
+ghost use Rattle.rules.specs.Tests.{bit, among, blankPast, isTaken, slotFits, waiterFits, idsBelow, idsDistinct, slotsFit, countsRight, orderRight, blankFrom, queueRises};
+ghost use Rattle.rules.specs.Exact.{Exactly};
+use definition::Options;
+use slots::Head;
+
+// ── words ──
+
+fn both(a: bool, b: bool) -> bool
+    ensures { λ r. ⌜ r ≡ a && b ⌝ }
+{
+    if a {
+        return b;
+    }
+    false
+}
+
+fn one_if(b: bool) -> u32
+    ensures { λ r. ⌜ r ≡ bit b ⌝ }
+{
+    if b {
+        return 1;
+    }
+    0
+}
+
+fn wide(x: u8) -> usize
+    ensures { λ r. ⌜ r ≡ x ⌝ }
+{
+    x as usize
+}
+
+fn long(x: u8) -> u64
+    ensures { λ r. ⌜ r ≡ x ⌝ }
+{
+    x as u64
+}
+
+fn is_taken(state: u8) -> bool
+    ensures { λ r. ⌜ r ≡ isTaken state ⌝ }
+{
+    !(state == 0)
+}
+
+fn is_pending(state: u8) -> bool
+    ensures { λ r. ⌜ r ≡ isPending state ⌝ }
+{
+    both(5 <= state, state <= 6)
+}
+
+fn is_shelved(state: u8) -> bool
+    ensures { λ r. ⌜ r ≡ isShelved state ⌝ }
+{
+    state == 1
+}
+
+// ── one cell ──
+
+fn below(x: u32, y: u32) -> bool
+    ensures { λ r. ⌜ r ≡ x <? y ⌝ }
+{
+    x < y
+}
+
+fn blank_past(n: usize, i: usize, x: u64) -> bool
+    ensures { λ r. ⌜ r ≡ blankPast n i x ⌝ }
+{
+    if i < n {
+        return true;
+    }
+    x == 0
+}
+
+fn slot_fits(id: u32, generation: u32, time: u64, state: u8) -> bool
+    ensures { λ r. ⌜ r ≡ slotFits id generation time state ⌝ }
+{
+    if id == 0 {
+        return both(state == 0, both(generation == 0, time == 0));
+    }
+    both(1 <= state, state <= 6)
+}
+
+fn waiter_fits(before: u64, id: u64, last: u64) -> bool
+    ensures { λ r. ⌜ r ≡ waiterFits before id last ⌝ }
+{
+    both(before < id, id <= last)
+}
+
+// ── the rules ──
+
+fn options_fit(o: Options) -> bool
+    ensures { λ r. ⌜ r ≡ inRange o ⌝ }
+{
+    let a = o.maximum;
+    let b = o.minimum;
+    let c = o.connecting;
+    both(both(both(both(1 <= a, a <= 64), b <= a), 1 <= c), c <= 64)
+}
+
+fn ids_below(cells: &[u32; 128], next: u32) -> bool
+    ensures { λ r. ⌜ r ≡ idsBelow (now (cells .entry)) next ⌝ }
+{
+    let mut ok = true;
+    let mut i: usize = 0;
+    while i < 64 {
+        ok = both(ok, below(cells[i], next));
+        i += 1;
+    }
+    ok
+}
+
+// Whether x stands among the first n ids.
+fn is_among(cells: &[u32; 128], n: usize, x: u32) -> bool
+    requires { ⌜ n ≤ 64 ⌝ }
+    ensures { λ r. ⌜ r ≡ among x n (now (cells .entry)) ⌝ }
+{
+    let mut i: usize = 0;
+    while i < n {
+        if cells[i] == x {
+            return true;
+        }
+        i += 1;
+    }
+    false
+}
+
+// Whether the id x stands among the first n, where a mark says that it may.
+fn clashes(cells: &[u32; 128], n: usize, x: u32, mark: u8) -> bool
+    requires { ⌜ n ≤ 64 ⌝ }
+    ensures { λ r. ⌜ r ≡ not (mark =? 0) && (not (x =? 0) && among x n (now (cells .entry))) ⌝ }
+{
+    if mark == 0 {
+        return false;
+    }
+    if x == 0 {
+        return false;
+    }
+    is_among(cells, n, x)
+}
+
+// A mark for each remainder: only where one is met again are the ids before looked through.
+fn ids_distinct(cells: &[u32; 128]) -> bool
+    ensures { λ r. ⌜ r ≡ idsDistinct (now (cells .entry)) ⌝ }
+{
+    let mut marks: [u8; 256] = [0; 256];
+    let mut i: usize = 0;
+    while i < 64 {
+        let x = cells[i];
+        let h = (x % 256) as usize;
+        let mark = marks[h];
+        if clashes(cells, i, x, mark) {
+            return false;
+        }
+        marks[h] = 1;
+        i += 1;
+    }
+    true
+}
+
+// A slot without an id is vacant, a slot with one is not.
+fn slots_fit(cells: &[u32; 128], times: &[u64; 64], seats: &[u8; 128]) -> bool
+    ensures { λ r. ⌜ r ≡ slotsFit (now (cells .entry)) (now (times .entry)) (now (seats .entry)) ⌝ }
+{
+    let mut ok = true;
+    let mut i: usize = 0;
+    while i < 64 {
+        ok = both(ok, slot_fits(cells[i], cells[64 + i], times[i], seats[i]));
+        i += 1;
+    }
+    ok
+}
+
+fn counts_right(seats: &[u8; 128], total: u32, pending: u32, available: usize) -> bool
+    ensures { λ r. ⌜ r ≡ countsRight (now (seats .entry)) total pending available ⌝ }
+{
+    let mut taken: u32 = 0;
+    let mut waits: u32 = 0;
+    let mut shelved: u32 = 0;
+    let mut i: usize = 0;
+    while i < 64 {
+        let k = seats[i];
+        taken = taken + one_if(is_taken(k));
+        waits = waits + one_if(is_pending(k));
+        shelved = shelved + one_if(is_shelved(k));
+        i += 1;
+    }
+    both(
+        taken == total,
+        both(waits == pending, shelved as usize == available),
+    )
+}
+
+// What is listed is a slot, is checked in, and was not met before.
+fn order_right(seats: &[u8; 128], n: usize) -> bool
+    ensures { λ r. ⌜ r ≡ orderRight (drop 64 (now (seats .entry))) (now (seats .entry)) n ⌝ }
+{
+    if 64 < n {
+        return false;
+    }
+    let mut met: [u8; 64] = [0; 64];
+    let mut i: usize = 0;
+    while i < n {
+        let e = wide(seats[64 + i]);
+        if 64 <= e {
+            return false;
+        }
+        if seats[e] != 1 {
+            return false;
+        }
+        if met[e] != 0 {
+            return false;
+        }
+        met[e] = 1;
+        i += 1;
+    }
+    true
+}
+
+fn order_blank_from(seats: &[u8; 128], n: usize) -> bool
+    ensures { λ r. ⌜ r ≡ blankFrom 64 n (drop 64 (now (seats .entry))) ⌝ }
+{
+    let mut ok = true;
+    let mut i: usize = 0;
+    while i < 64 {
+        ok = both(ok, blank_past(n, i, long(seats[64 + i])));
+        i += 1;
+    }
+    ok
+}
+
+// Request ids rise, the first above 0, none above the last.
+fn queue_rises(waiters: &[u64; 256], n: usize, last: u32) -> bool
+    ensures { λ r. ⌜ r ≡ queueRises (now (waiters .entry)) n last ⌝ }
+{
+    if 256 < n {
+        return false;
+    }
+    let top = last as u64;
+    let mut ok = true;
+    let mut before: u64 = 0;
+    let mut i: usize = 0;
+    while i < n {
+        let id = waiters[i] / 4;
+        ok = both(ok, waiter_fits(before, id, top));
+        before = id;
+        i += 1;
+    }
+    ok
+}
+
+fn queue_blank_from(waiters: &[u64; 256], n: usize) -> bool
+    ensures { λ r. ⌜ r ≡ blankFrom 256 n (now (waiters .entry)) ⌝ }
+{
+    let mut ok = true;
+    let mut i: usize = 0;
+    while i < 256 {
+        ok = both(ok, blank_past(n, i, waiters[i]));
+        i += 1;
+    }
+    ok
+}
+
+// The structure test: whether a pool keeps every rule. That the serial fits is its type's to say.
+pub fn keeps_rules(
+    head: Head,
+    cells: &[u32; 128],
+    times: &[u64; 64],
+    seats: &[u8; 128],
+    waiters: &[u64; 256],
+) -> bool
+    requires { ⌜ Whole (given head cells times seats waiters) ⌝ }
+    ensures { λ r. ⌜ Exactly r (before head cells times seats waiters) ⌝ }
+{
+    let o = head.options;
+    let next = head.next_connection_id;
+    let n = head.available_count;
+    let w = head.waiting_count;
+    let options = both(options_fit(o), next <= 4294967233);
+    let below = ids_below(cells, next);
+    let distinct = ids_distinct(cells);
+    let fit = slots_fit(cells, times, seats);
+    let counts = counts_right(
+        seats,
+        head.total_connection_count,
+        head.pending_connection_count,
+        n,
+    );
+    let order = order_right(seats, n);
+    let past = order_blank_from(seats, n);
+    let queue = queue_rises(waiters, w, head.last_request);
+    let rest = queue_blank_from(waiters, w);
+    both(
+        both(options, both(below, both(distinct, fit))),
+        both(both(counts, both(order, past)), both(queue, rest)),
+    )
+}

@@ -1,0 +1,146 @@
+use mathlib.Core.Path.{_≡_, refl, sym, _∙_}
+use Prim.Native.Nat.{_-_, _<_}
+use native.Mathlib.Omega.{arith}
+use lib.ListN.{getD}
+use Rattle.slots.specs.View.{SlotPool, poolOf, waiterOf}
+use Rattle.slots.specs.Parts.{available-at}
+use Rattle.slots.specs.DoneLaws.{told-start}
+use Rattle.service.specs.Laws.{Taking, Turn, perishedCode, perished-at, turn-reason, turn-whole, turn-shelves, turn-closes, taking-lent, taking-step, taking-creates, taking-ends}
+use borrow.Author.Needs.{needs}
+use Rattle.service.proofs.take_available.Statement.{statement}
+use Rattle.service.proofs.take_available.Tie as tie
+use Rattle.service.proofs.take_available.Reads as reads
+use Rattle.service.proofs.take_available.Lts as lts
+use Rattle.acts.proofs.close_connection.Reads as close-connection-reads
+use Rattle.acts.proofs.perished.Reads as perished-reads
+use Rattle.acts.proofs.pop_back.Reads as pop-back-reads
+use Rattle.acts.proofs.wide.Reads as wide-reads
+use Rattle.service.proofs.establish.Reads as establish-reads
+use Rattle.service.proofs.lend.Reads as lend-reads
+
+abbrev Inv-loop : tie.InvT-loop
+Inv-loop cells₀ times₀ seats₀ waiters₀ out₀ n waiter h₀ count₀ k₀ cells times seats waiters out h count k = Taking (waiterOf waiter) (h₀ .serial) k₀ count₀ (poolOf h₀ cells₀ times₀ seats₀ waiters₀) out₀ k count (poolOf h cells times seats waiters) out
+
+abbrev μ-loop : tie.MeasureT-loop
+μ-loop cells₀ times₀ seats₀ waiters₀ out₀ n waiter h₀ count₀ k₀ cells times seats waiters out h count k = k
+
+-- the pool that the parts make as a turn starts
+abbrev at : tie.At-loop Inv-loop μ-loop → SlotPool
+at l = poolOf (l .loop .h) (l .loop .cells) (l .loop .times) (l .loop .seats) (l .loop .waiters)
+
+-- the slot at the back
+back : (c : tie.After-wide Inv-loop μ-loop) → c .wide .result ≡ getD (at (c .before .before .before) .available) (c .before .before .before .loop .k - 1) 0
+back c = let l = c .before .before .before .loop in c .wide .ensures ∙ sym (available-at (l .h) (l .cells) (l .times) (l .seats) (l .waiters) (l .k - 1))
+
+inside : (c : tie.After-wide Inv-loop μ-loop) → c .wide .result < 64
+inside c = omega (arith, back c, c .before .before .before .loop .inv .safe .prune .listed (c .before .before .before .loop .k - 1))
+
+-- why it is closed
+why : (c : tie.After-perished Inv-loop μ-loop) → c .perished .result ≡ perishedCode (at (c .before .before .before .before .before .before .before .before)) (c .before .before .before .before .before .wide .result)
+why c = let l = c .before .before .before .before .before .before .before .before .loop in c .perished .ensures ∙ perished-at (l .h) (l .cells) (l .times) (l .seats) (l .waiters) (l .inv .whole) (c .before .before .before .before .before .wide .result) (inside (c .before .before .before .before .before))
+
+turn : (c : tie.After-perished Inv-loop μ-loop) → Turn (c .before .before .before .before .before .before .before .before .loop .k) (at (c .before .before .before .before .before .before .before .before)) (c .before .before .before .before .before .wide .result) (c .perished .result)
+turn c = record { more = c .before .before .before .before .before .before .before .loop-test .taken; back = back (c .before .before .before .before .before); code = why c }
+
+loop-holds : tie.Need-loop-holds Inv-loop μ-loop
+loop-holds c = record { told = told-start _ _ _ _; safe = c .before .pre .1; count = refl; whole = c .before .pre .0; room = c .before .pre .2; same = refl; serial = refl }
+
+sub-k : tie.Need-sub-k Inv-loop μ-loop
+sub-k c = omega arith
+
+add-wide : tie.Need-add-wide Inv-loop μ-loop
+add-wide c = let v = c .before .loop .inv in omega (arith, v .safe .prune .fits, v .count)
+
+element-copy-out-wide : tie.Need-element-copy-out-wide Inv-loop μ-loop
+element-copy-out-wide c = let v = c .before .loop .inv in omega (arith, v .safe .prune .fits, v .count)
+
+wide-requires : tie.Need-wide-requires Inv-loop μ-loop
+wide-requires c κs = search needs
+
+add-perished : tie.Need-add-perished Inv-loop μ-loop
+add-perished c = omega (arith, inside (c .before .before))
+
+mul-perished : tie.Need-mul-perished Inv-loop μ-loop
+mul-perished c = omega (arith, inside (c .before .before))
+
+element-copy-out-perished : tie.Need-element-copy-out-perished Inv-loop μ-loop
+element-copy-out-perished c = omega (arith, inside (c .before .before))
+
+mul-perished-2 : tie.Need-mul-perished-2 Inv-loop μ-loop
+mul-perished-2 c = omega (arith, inside (c .before .before .before))
+
+element-copy-out-perished-2 : tie.Need-element-copy-out-perished-2 Inv-loop μ-loop
+element-copy-out-perished-2 c = inside (c .before .before .before)
+
+perished-requires : tie.Need-perished-requires Inv-loop μ-loop
+perished-requires c κs = search needs
+
+pop-back-requires : tie.Need-pop-back-requires Inv-loop μ-loop
+pop-back-requires c κs =
+    let v = c .before .before .before .before .before .before .before .before .before .before .before .before .loop .inv in
+    (v .whole, v .safe .prune, omega (arith, v .count, c .before .before .before .before .before .before .before .before .before .before .before .loop-test .taken))
+
+lend-requires : tie.Need-lend-requires Inv-loop μ-loop
+lend-requires c κs =
+    let v = c .before .before .before .before .before .before .before .before .before .before .before .before .before .before .before .before .before .before .before .loop .inv in
+    let t = turn (c .before .before .before .before .before .before .before .before .before .before .before) in
+    let e = c .before .before .before .before .before .before .pop-back .ensures in
+    (turn-whole v t e, turn-shelves v t e, (omega (arith, v .room .0), omega (arith, v .room .1)))
+
+same-length : tie.Need-same-length Inv-loop μ-loop
+same-length c = omega (arith, c .before .before .before .before .before .before .before .before .before .before .before .before .before .before .before .before .before .before .before .before .before .before .loop .inv .same)
+
+returns : tie.Need-returns Inv-loop μ-loop
+returns c = taking-lent (c .before .before .before .before .before .before .before .before .before .before .before .before .before .before .before .before .before .before .before .before .before .before .loop .inv) (turn (c .before .before .before .before .before .before .before .before .before .before .before .before .before .before)) (c .before .before .before .before .before .before .before .before .before .pop-back .ensures) (c .before .before .before .before .before .before .before .before .if1 .taken) (c .before .before .lend .ensures)
+
+close-connection-requires : tie.Need-close-connection-requires Inv-loop μ-loop
+close-connection-requires c κs =
+    let v = c .before .before .before .before .before .before .before .before .before .before .before .before .before .before .before .before .before .before .before .loop .inv in
+    let t = turn (c .before .before .before .before .before .before .before .before .before .before .before) in
+    let e = c .before .before .before .before .before .before .pop-back .ensures in
+    (turn-whole v t e, turn-closes v t e, (omega (arith, v .room .0), omega (arith, v .room .1)), search needs, omega (arith, turn-reason t))
+
+loop-less : tie.Need-loop-less Inv-loop μ-loop
+loop-less c = omega (arith, c .before .before .before .before .before .before .before .before .before .before .before .before .before .before .before .before .before .before .before .before .before .before .loop-test .taken)
+
+loop-again : tie.Need-loop-again Inv-loop μ-loop
+loop-again c = taking-step (c .before .before .before .before .before .before .before .before .before .before .before .before .before .before .before .before .before .before .before .before .before .before .before .loop .inv) (turn (c .before .before .before .before .before .before .before .before .before .before .before .before .before .before .before)) (c .before .before .before .before .before .before .before .before .before .before .pop-back .ensures) (c .before .before .before .before .before .before .before .before .before .if1 .left) (c .before .before .before .close-connection .ensures) (search needs)
+
+establish-requires : tie.Need-establish-requires Inv-loop μ-loop
+establish-requires c κs =
+    let v = c .before .before .before .before .before .before .loop .inv in
+    (v .whole, taking-creates v (omega arith), (omega (arith, v .room .0), omega (arith, v .room .1)))
+
+same-length-2 : tie.Need-same-length-2 Inv-loop μ-loop
+same-length-2 c = search needs
+
+returns-2 : tie.Need-returns-2 Inv-loop μ-loop
+returns-2 c = taking-ends (c .before .before .before .before .before .before .before .before .before .loop .inv) (omega arith) (c .before .before .establish .ensures)
+
+pub take-available-spec : {M : Type 1} → statement M
+take-available-spec =
+    tie.close
+    (tie.spec
+    Inv-loop
+    μ-loop
+    loop-holds
+    sub-k
+    add-wide
+    element-copy-out-wide
+    wide-requires
+    add-perished
+    mul-perished
+    element-copy-out-perished
+    mul-perished-2
+    element-copy-out-perished-2
+    perished-requires
+    pop-back-requires
+    lend-requires
+    same-length
+    returns
+    close-connection-requires
+    loop-less
+    loop-again
+    establish-requires
+    same-length-2
+    returns-2)

@@ -1,0 +1,64 @@
+use mathlib.Core.Path.{_≡_, refl}
+use denote.Ref.{now}
+use Rattle.definition.specs.Records.{ConnectionReady}
+use Rattle.definition.specs.Steps.{emit, _>>_}
+use Rattle.slots.specs.View.{poolOf}
+use Rattle.slots.specs.DoneLaws.{done-then, done-emit, done-quiet}
+use Rattle.slots.specs.Parts.{id-at}
+use Rattle.slots.specs.Slots.{succeededAt, leavePending, turnAt, idAt}
+use borrow.Author.Needs.{needs}
+use Rattle.steps.proofs.handle_connection_succeeded.Statement.{statement}
+use Rattle.steps.proofs.handle_connection_succeeded.Tie as tie
+use Rattle.steps.proofs.handle_connection_succeeded.Reads as reads
+use Rattle.steps.proofs.handle_connection_succeeded.Lts as lts
+use Rattle.acts.proofs.long.Reads as long-reads
+use Rattle.acts.proofs.turn.Reads as turn-reads
+use Rattle.table.proofs.emit.Reads as emit-reads
+
+mul-long : tie.Need-mul-long
+mul-long c = search needs
+
+element-copy-out-long : tie.Need-element-copy-out-long
+element-copy-out-long c = search needs
+
+long-requires : tie.Need-long-requires
+long-requires c κs = search needs
+
+emit-requires : tie.Need-emit-requires
+emit-requires c κs = search needs
+
+sub-h : tie.Need-sub-h
+sub-h c = search needs
+
+turn-requires : tie.Need-turn-requires
+turn-requires c κs = search needs
+
+add-t17 : tie.Need-add-t17
+add-t17 c = search needs
+
+same-length : tie.Need-same-length
+same-length c = search needs
+
+returns : tie.Need-returns
+unfolding succeededAt leavePending turnAt
+returns c =
+    let a = c .before .before .before .before .before .before .before .before .before .before .before .before .before .args in
+    let r = ConnectionReady (idAt (poolOf (a .head) (now (a .cells)) (now (a .times)) (now (a .seats)) (now (a .waiters))) (a .i)) in
+    let i = id-at (a .head) (now (a .cells)) (now (a .times)) (now (a .seats)) (now (a .waiters)) (a .i) (c .before .before .before .before .before .before .before .before .before .before .before .before .before .pre .1 .slot) in
+    done-then (emit r) (leavePending >> turnAt 2 (a .i)) (poolOf (a .head) (now (a .cells)) (now (a .times)) (now (a .seats)) (now (a .waiters))) (poolOf (a .head) (now (a .cells)) (now (a .times)) (now (a .seats)) (now (a .waiters))) _
+    (done-emit r (poolOf (a .head) (now (a .cells)) (now (a .times)) (now (a .seats)) (now (a .waiters))) refl (rw (i, ← c .before .before .before .before .before .before .before .before .before .long .ensures) (c .before .before .before .before .before .before .before .before .emit .ensures)))
+    (done-then leavePending (turnAt 2 (a .i)) (poolOf (a .head) (now (a .cells)) (now (a .times)) (now (a .seats)) (now (a .waiters))) _ _ (done-quiet (leavePending (poolOf (a .head) (now (a .cells)) (now (a .times)) (now (a .seats)) (now (a .waiters)))) refl refl) (done-quiet _ refl (c .turn .ensures)))
+
+pub handle-connection-succeeded-spec : {M : Type 1} → statement M
+handle-connection-succeeded-spec =
+    tie.close
+    (tie.spec
+    mul-long
+    element-copy-out-long
+    long-requires
+    emit-requires
+    sub-h
+    turn-requires
+    add-t17
+    same-length
+    returns)

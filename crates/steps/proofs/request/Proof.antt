@@ -1,0 +1,125 @@
+use mathlib.Core.Path.{_≡_, refl, sym, ap, _∙_}
+use Prim.Native.Nat.{ℕ, _+_, _*_}
+use denote.Ref.{now}
+use lib.ListN.{set}
+use Rattle.definition.specs.Records.{Replied, Cleared}
+use Rattle.slots.specs.View.{poolOf}
+use Rattle.slots.specs.DoneLaws.{done-emit, done-quiet, done-as}
+use Rattle.slots.specs.StepLaws.{request-new, request-paused, request-ready, request-closed}
+use Rattle.slots.specs.Slots.{withLastRequest, withWaiters}
+use borrow.Author.Needs.{needs}
+use Rattle.steps.proofs.request.Statement.{statement}
+use Rattle.steps.proofs.request.Tie as tie
+use Rattle.steps.proofs.request.Reads as reads
+use Rattle.steps.proofs.request.Lts as lts
+use Rattle.acts.proofs.long.Reads as long-reads
+use Rattle.steps.proofs.mark.Reads as mark-reads
+use Rattle.table.proofs.emit.Reads as emit-reads
+
+enum-told : tie.Need-enum-told
+enum-told c = search needs
+
+long-requires : tie.Need-long-requires
+long-requires c κs = search needs
+
+emit-requires : tie.Need-emit-requires
+emit-requires c κs = search needs
+
+add-t20 : tie.Need-add-t20
+add-t20 c = search needs
+
+enum-known-st : tie.Need-enum-known-st
+enum-known-st c = search needs
+
+long-requires-2 : tie.Need-long-requires-2
+long-requires-2 c κs = search needs
+
+emit-requires-2 : tie.Need-emit-requires-2
+emit-requires-2 c κs = search needs
+
+add-t25 : tie.Need-add-t25
+add-t25 c = search needs
+
+enum-told-2 : tie.Need-enum-told-2
+enum-told-2 c = search needs
+
+long-requires-3 : tie.Need-long-requires-3
+long-requires-3 c κs = search needs
+
+mul-waiters : tie.Need-mul-waiters
+mul-waiters c = search needs
+
+mark-requires : tie.Need-mark-requires
+mark-requires c κs = search needs
+
+add-waiters : tie.Need-add-waiters
+add-waiters c = search needs
+
+mul-waiters-2 : tie.Need-mul-waiters-2
+mul-waiters-2 c = search needs
+
+element-write-waiters : tie.Need-element-write-waiters
+element-write-waiters c = search needs
+
+add-h : tie.Need-add-h
+add-h c = search needs
+
+enum-told-3 : tie.Need-enum-told-3
+enum-told-3 c = search needs
+
+same-length : tie.Need-same-length
+same-length c = search needs
+
+returns : tie.Need-returns
+returns c =
+    let a = c .before .before .before .before .before .before .before .before .before .args in
+    done-as (request-new (poolOf (a .head) (now (a .cells)) (now (a .times)) (now (a .seats)) (now (a .waiters))) (a .id) (a .warm) (c .before .before .before .before .before .enum-told .given .1))
+    (done-emit (Replied (a .id) (Cleared 0)) _ refl (rw (← c .before .before .before .long .ensures) (c .before .before .emit .ensures)))
+
+same-length-2 : tie.Need-same-length-2
+same-length-2 c = search needs
+
+returns-2 : tie.Need-returns-2
+returns-2 c =
+    let a = c .before .before .before .before .before .before .before .before .before .before .args in
+    done-as (request-paused (poolOf (a .head) (now (a .cells)) (now (a .times)) (now (a .seats)) (now (a .waiters))) (a .id) (a .warm) _ (c .before .before .before .before .before .before .st .given .1))
+    (done-emit (Replied (a .id) (Cleared _)) _ refl (rw (← c .before .before .before .long2 .ensures) (c .before .before .emit2 .ensures)))
+
+returns-3 : tie.Need-returns-3
+returns-3 c =
+    let a = c .before .before .before .before .before .before .args in
+    done-as (request-ready (poolOf (a .head) (now (a .cells)) (now (a .times)) (now (a .seats)) (now (a .waiters))) (a .id) (a .warm) (c .before .before .enum-told2 .given .1))
+    (done-quiet _ refl (rw (c .before .long3 .ensures, c .mark .ensures .0) refl))
+
+returns-4 : tie.Need-returns-4
+returns-4 c =
+    let a = c .before .before .before .before .args in
+    done-as (request-closed (poolOf (a .head) (now (a .cells)) (now (a .times)) (now (a .seats)) (now (a .waiters))) (a .id) (a .warm) (c .enum-told3 .given .1)) (done-quiet _ refl refl)
+
+pub request-spec : {M : Type 1} → statement M
+request-spec =
+    tie.close
+    (tie.spec
+    enum-told
+    long-requires
+    emit-requires
+    add-t20
+    enum-known-st
+    long-requires-2
+    emit-requires-2
+    add-t25
+    enum-told-2
+    long-requires-3
+    mul-waiters
+    mark-requires
+    add-waiters
+    mul-waiters-2
+    element-write-waiters
+    add-h
+    enum-told-3
+    same-length
+    returns
+    same-length-2
+    returns-2
+    returns-3
+    returns-4)

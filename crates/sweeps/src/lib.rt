@@ -1,0 +1,153 @@
+// What goes over a list, one by one: the waiters that are told, the available ones that are closed, those that are made.
+ghost use mathlib.Core.Path.{_≡_};
+ghost use Prim.Native.Nat.{_+_, _≤_, _<_};
+ghost use Rattle.slots.specs.View.{given, before, after, Whole};
+ghost use Rattle.slots.specs.Done.{Room, Done};
+ghost use Rattle.slots.specs.Codes.{replyOf, IsReply};
+ghost use Rattle.slots.specs.Needs.{CanPrune, CanFill, CanTell};
+ghost use Rattle.slots.specs.Slots.{removePerished, ensureMinConnections, tellAll, closeFront};
+use acts::Core;
+use slots::Head;
+
+// Every waiter, front to back: 19 with its cause, or 20.
+pub fn tell_all(
+    head: Head,
+    cells: &mut [u32; 128],
+    times: &mut [u64; 64],
+    seats: &mut [u8; 128],
+    waiters: &mut [u64; 256],
+    out: &mut [u8],
+    n: u32,
+    kind: u8,
+    other: u32,
+) -> Core
+    requires { ⌜ Whole (given head cells times seats waiters) × CanTell (given head cells times seats waiters) × IsReply kind other × Room (head .«waiting_count») n (now out) ⌝ }
+    ensures { λ r. ⌜ Done (tellAll (replyOf kind other) (before head cells times seats waiters)) (head .serial) n (now (out .entry)) (after (r .head) cells times seats waiters) (r .count) (now (out .exit)) ⌝ }
+{
+    let w = head.waiting_count;
+    let serial = head.serial;
+    let mut count = n;
+    let mut k: usize = 0;
+    while k < w {
+        acts::reply(out, count, serial, waiters[k], kind, other);
+        waiters[k] = 0;
+        count = count + 1;
+        k = k + 1;
+    }
+    let mut h = head;
+    h.waiting_count = 0;
+    Core {
+        head: h,
+        count: count,
+    }
+}
+
+// Maintenance, first: from the available front, up to the first healthy one.
+pub fn remove_perished_connections(
+    head: Head,
+    cells: &mut [u32; 128],
+    times: &mut [u64; 64],
+    seats: &mut [u8; 128],
+    waiters: &mut [u64; 256],
+    out: &mut [u8],
+    n: u32,
+) -> Core
+    requires { ⌜ Whole (given head cells times seats waiters) × CanPrune (given head cells times seats waiters) × Room (head .«available_count») n (now out) ⌝ }
+    ensures { λ r. ⌜ Done (removePerished (before head cells times seats waiters)) (head .serial) n (now (out .entry)) (after (r .head) cells times seats waiters) (r .count) (now (out .exit)) ⌝ }
+{
+    let mut h = head;
+    let mut count = n;
+    let mut k = head.available_count;
+    while 0 < k {
+        let i = acts::wide(seats[64]);
+        let m = h.mode;
+        let o = h.options;
+        let r = acts::perished(m.generation, o.idle, h.clock, cells[64 + i], times[i]);
+        if r == 0 {
+            return Core {
+                head: h,
+                count: count,
+            };
+        }
+        h = acts::pop_front(h, cells, times, seats, waiters);
+        let c = acts::close_connection(h, cells, times, seats, waiters, out, count, i, r);
+        h = c.head;
+        count = c.count;
+        k = k - 1;
+    }
+    Core {
+        head: h,
+        count: count,
+    }
+}
+
+// Maintenance, then: background connections while total is below the minimum and pending below max connecting.
+pub fn ensure_min_connections(
+    head: Head,
+    cells: &mut [u32; 128],
+    times: &mut [u64; 64],
+    seats: &mut [u8; 128],
+    waiters: &mut [u64; 256],
+    out: &mut [u8],
+    n: u32,
+) -> Core
+    requires { ⌜ Whole (given head cells times seats waiters) × CanFill (given head cells times seats waiters) × Room 64 n (now out) ⌝ }
+    ensures { λ r. ⌜ Done (ensureMinConnections (before head cells times seats waiters)) (head .serial) n (now (out .entry)) (after (r .head) cells times seats waiters) (r .count) (now (out .exit)) ⌝ }
+{
+    let mut h = head;
+    let mut count = n;
+    let m = head.mode;
+    let st = m.state;
+    if !acts::is_ready(st) {
+        return Core {
+            head: h,
+            count: count,
+        };
+    }
+    let o = head.options;
+    while h.total_connection_count < o.minimum {
+        if o.connecting <= h.pending_connection_count {
+            return Core {
+                head: h,
+                count: count,
+            };
+        }
+        let c = acts::create_pending_connection(h, cells, times, seats, waiters, out, count, 6);
+        h = c.head;
+        count = c.count;
+    }
+    Core {
+        head: h,
+        count: count,
+    }
+}
+
+// Every available connection, front to back, is closed with its pool.
+pub fn close_available(
+    head: Head,
+    cells: &mut [u32; 128],
+    times: &mut [u64; 64],
+    seats: &mut [u8; 128],
+    waiters: &mut [u64; 256],
+    out: &mut [u8],
+    n: u32,
+) -> Core
+    requires { ⌜ Whole (given head cells times seats waiters) × CanPrune (given head cells times seats waiters) × Room (head .«available_count») n (now out) ⌝ }
+    ensures { λ r. ⌜ Done (closeFront (head .«available_count») (before head cells times seats waiters)) (head .serial) n (now (out .entry)) (after (r .head) cells times seats waiters) (r .count) (now (out .exit)) ⌝ }
+{
+    let mut h = head;
+    let mut count = n;
+    let mut k = head.available_count;
+    while 0 < k {
+        let i = acts::wide(seats[64]);
+        h = acts::pop_front(h, cells, times, seats, waiters);
+        let c = acts::close_connection(h, cells, times, seats, waiters, out, count, i, 5);
+        h = c.head;
+        count = c.count;
+        k = k - 1;
+    }
+    Core {
+        head: h,
+        count: count,
+    }
+}

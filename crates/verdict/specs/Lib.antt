@@ -1,0 +1,2 @@
+pub mod Look
+pub mod Laws

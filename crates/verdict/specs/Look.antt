@@ -1,0 +1,59 @@
+-- The tests of an event, one group after another; a lookup by id.
+use mathlib.Core.Path.{_≡_}
+use mathlib.Core.Bool.{Bool, true, false, not, _&&_, _||_}
+use mathlib.Core.List.{List, [], _∷_}
+use mathlib.Core.Option.{Option, none, some}
+use Prim.Native.Nat.{ℕ, _%_}
+use lib.ListN.{getD, take, drop}
+use Rattle.definition.specs.Words.{_<?_, _≤?_, _=?_}
+use Rattle.definition.specs.Pool.{isClosed, queueLength}
+use Rattle.definition.specs.Steps.{kindNo, _to_holds_}
+use Rattle.definition.specs.Refusals.{Test, _if_, first, takenAfterClose, lastNextId, lastGeneration, wrongTime}
+use Rattle.definition.specs.declared.Event.{Event}
+use Rattle.definition.specs.declared.PoolState.{PoolState}
+use Rattle.definition.specs.declared.Refusal.{Refusal}
+use Rattle.definition.specs.declared.Refusal.the-variants.{ClockBack, AfterClose, NumbersSpent, OldRequest, QueueFull, WrongState, WrongTime, NotWaiting, AlreadyPinned}
+use Rattle.slots.specs.Order.{place, placeOf}
+use Rattle.slots.specs.View.{rows}
+use Rattle.slots.specs.Slots.{vacant}
+use Rattle.slots.specs.declared.Mode.{Mode}
+use Rattle.verdict.specs.declared.Found.{Found}
+use Rattle.verdict.specs.declared.Bar.{Bar}
+use Rattle.verdict.specs.declared.Bar.the-variants.{By, Open}
+
+-- what is found is the slot of the id, and what stands there
+pub record Looks (cells times seats : List ℕ) (id : ℕ) (f : Found) : Type 0 where
+  pub at : f .at ≡ place id 64 (take 64 cells)
+  pub state : f .state ≡ getD (rows (drop 64 cells) times (take 64 seats)) (f .at) vacant .state
+  pub time : f .time ≡ getD (rows (drop 64 cells) times (take 64 seats)) (f .at) vacant .time
+
+abbrev pub barOf : Option Refusal → Bar
+barOf none = Open
+barOf (some r) = By r
+
+abbrev pub spent : (kind generation nextId : ℕ) → Bool
+spent kind generation nextId = not (kind =? 15) && lastNextId <? nextId || kind =? 5 && generation =? lastGeneration
+
+-- 3, 4 and 5
+abbrev pub commonTests : (clock nextId : ℕ) → Mode → (now : ℕ) → Event → List Test
+commonTests clock nextId m now e =
+    (ClockBack if now <? clock) ∷
+    (AfterClose if isClosed (m .state) && not (takenAfterClose e)) ∷
+    (NumbersSpent if not (isClosed (m .state)) && not (kindNo e =? 15) && lastNextId <? nextId || kindNo e =? 5 && m .generation =? lastGeneration) ∷ []
+
+-- 6 and 7; 11; 8; 8 and 9; 12 and 8
+abbrev pub requestList : (last waiting request : ℕ) → List Test
+requestList last waiting n = (OldRequest if n ≤? last) ∷ (QueueFull if queueLength ≤? waiting) ∷ []
+
+abbrev pub abandonList : List ℕ → (waiting request : ℕ) → List Test
+abandonList waiters waiting n =
+    (NotWaiting if not (placeOf n waiting waiters <? waiting && getD waiters (placeOf n waiting waiters) 0 % 4 <? 2)) ∷ []
+
+abbrev pub stateList : (state low high : ℕ) → List Test
+stateList state low high = (WrongState if not (low to high holds state)) ∷ []
+
+abbrev pub timeList : (state low high second last now : ℕ) → List Test
+timeList state low high second last now = (WrongState if not (low to high holds state)) ∷ (WrongTime if wrongTime second last now) ∷ []
+
+abbrev pub pinList : (state : ℕ) → List Test
+pinList state = (AlreadyPinned if 3 to 4 holds state) ∷ (WrongState if not (state =? 2)) ∷ []

@@ -1,0 +1,281 @@
+// What the tests say of an event: refused, or at which slot or waiter.
+ghost use mathlib.Core.Path.{_≡_};
+ghost use mathlib.Core.Bool.{true, false, not, _&&_, _||_};
+ghost use Prim.Native.Nat.{_+_, _≤_, _<_, _%_};
+ghost use lib.ListN.{length, getD, take, drop};
+ghost use Rattle.definition.specs.Words.{if_then_else_, _≤?_, _<?_, _=?_};
+ghost use Rattle.definition.specs.Pool.{queueLength};
+ghost use Rattle.definition.specs.Steps.{kindNo, _to_holds_};
+ghost use Rattle.definition.specs.Refusals.{first, wrongTime};
+ghost use Rattle.slots.specs.Order.{placeOf};
+ghost use Rattle.slots.specs.View.{rows, poolOf, Whole};
+ghost use Rattle.slots.specs.Call.{ofKind, orAt, target, verdict};
+ghost use Rattle.verdict.specs.Look.{Looks, barOf, spent, commonTests, requestList, abandonList, stateList, timeList, pinList};
+use definition::Event;
+use definition::Refusal;
+use slots::Head;
+use slots::Mode;
+use slots::Verdict;
+
+// The slot of an id, 64 where it has none, and what stands there.
+pub struct Found {
+    pub at: usize,
+    pub state: u8,
+    pub time: u64,
+}
+
+// What the tests that every kind shares say.
+pub enum Bar {
+    By(Refusal),
+    Open,
+}
+
+pub fn kind_no(e: Event) -> u8
+    ensures { λ r. ⌜ r ≡ kindNo e ⌝ }
+{
+    match e {
+        Event::CheckOut(_) => 1,
+        Event::WarmPool(_) => 2,
+        Event::Abandon(_) => 3,
+        Event::CheckIn(_, _, _, _) => 4,
+        Event::Clear(_, _) => 5,
+        Event::MarkAsReady => 6,
+        Event::Succeeded(_) => 7,
+        Event::SucceededForPool(_, _) => 8,
+        Event::Failed(_) => 9,
+        Event::Maintenance => 10,
+        Event::FillPool => 11,
+        Event::Pin(_) => 12,
+        Event::ReturnToPinner(_) => 13,
+        Event::TakeFromPinner(_) => 14,
+        Event::Close => 15,
+    }
+}
+
+// A closed pool still takes kinds 4, 7 to 9 and 12 to 14.
+fn taken_after_close(kind: u8) -> bool
+    ensures { λ r. ⌜ r ≡ (kind =? 4 || 7 to 9 holds kind || 12 to 14 holds kind) ⌝ }
+{
+    if kind == 4 {
+        return true;
+    }
+    if kind < 7 {
+        return false;
+    }
+    if kind <= 9 {
+        return true;
+    }
+    if kind < 12 {
+        return false;
+    }
+    kind <= 14
+}
+
+// 5, of an open pool.
+fn numbers_spent(kind: u8, generation: u32, next_id: u32) -> bool
+    ensures { λ r. ⌜ r ≡ spent kind generation «next_id» ⌝ }
+{
+    if kind == 15 {
+        return false;
+    }
+    if 4294967168 < next_id {
+        return true;
+    }
+    if kind == 5 {
+        return generation == 4294967295;
+    }
+    false
+}
+
+// 3, 4 and 5.
+pub fn barred(clock: u64, next_id: u32, m: Mode, time: u64, e: Event) -> Bar
+    ensures { λ r. ⌜ r ≡ barOf (first (commonTests clock «next_id» m time e)) ⌝ }
+{
+    if time < clock {
+        return Bar::By(Refusal::ClockBack);
+    }
+    let kind = kind_no(e);
+    let st = m.state;
+    if acts::is_closed(st) {
+        if taken_after_close(kind) {
+            return Bar::Open;
+        }
+        return Bar::By(Refusal::AfterClose);
+    }
+    if numbers_spent(kind, m.generation, next_id) {
+        return Bar::By(Refusal::NumbersSpent);
+    }
+    Bar::Open
+}
+
+pub fn look(cells: &[u32; 128], times: &[u64; 64], seats: &[u8; 128], id: u32) -> Found
+    requires { ⌜ length (rows (drop 64 (now cells)) (now times) (take 64 (now seats))) ≡ 64 ⌝ }
+    ensures { λ r. ⌜ Looks (now (cells .entry)) (now (times .entry)) (now (seats .entry)) id r ⌝ }
+{
+    let i = table::find(cells, id);
+    if i < 64 {
+        return Found {
+            at: i,
+            state: seats[i],
+            time: times[i],
+        };
+    }
+    Found {
+        at: i,
+        state: 0,
+        time: 0,
+    }
+}
+
+// 6 and 7, of a request.
+fn request_verdict(last_request: u32, waiting: usize, id: u32) -> Verdict
+    ensures { λ r. ⌜ r ≡ orAt 0 (first (requestList «last_request» waiting id)) ⌝ }
+{
+    if id <= last_request {
+        return Verdict::Refuse(Refusal::OldRequest);
+    }
+    if 256 <= waiting {
+        return Verdict::Refuse(Refusal::QueueFull);
+    }
+    Verdict::At(0)
+}
+
+// 11, of an abandon.
+fn abandon_verdict(waiters: &[u64; 256], waiting: usize, id: u32) -> Verdict
+    requires { ⌜ waiting ≤ 256 ⌝ }
+    ensures { λ r. ⌜ r ≡ orAt (placeOf id waiting (now (waiters .entry))) (first (abandonList (now (waiters .entry)) waiting id)) ⌝ }
+{
+    let k = table::find_waiter(waiters, waiting, id);
+    if k < waiting {
+        if waiters[k] % 4 < 2 {
+            return Verdict::At(k);
+        }
+    }
+    Verdict::Refuse(Refusal::NotWaiting)
+}
+
+// 8, where the connection has to be in one state, or in one of a range.
+fn in_state(at: usize, state: u8, low: u8, high: u8) -> Verdict
+    ensures { λ r. ⌜ r ≡ orAt at (first (stateList state low high)) ⌝ }
+{
+    if low <= state {
+        if state <= high {
+            return Verdict::At(at);
+        }
+    }
+    Verdict::Refuse(Refusal::WrongState)
+}
+
+// 8, then 9.
+fn in_time(f: Found, low: u8, high: u8, second: u64, time: u64) -> Verdict
+    ensures { λ r. ⌜ r ≡ orAt (f .at) (first (timeList (f .state) low high second (f .time) time)) ⌝ }
+{
+    if f.state < low {
+        return Verdict::Refuse(Refusal::WrongState);
+    }
+    if high < f.state {
+        return Verdict::Refuse(Refusal::WrongState);
+    }
+    if time < second {
+        return Verdict::Refuse(Refusal::WrongTime);
+    }
+    if second < f.time {
+        return Verdict::Refuse(Refusal::WrongTime);
+    }
+    Verdict::At(f.at)
+}
+
+// 12 before 8, of a pin.
+fn pin_verdict(at: usize, state: u8) -> Verdict
+    ensures { λ r. ⌜ r ≡ orAt at (first (pinList state)) ⌝ }
+{
+    if state == 3 {
+        return Verdict::Refuse(Refusal::AlreadyPinned);
+    }
+    if state == 4 {
+        return Verdict::Refuse(Refusal::AlreadyPinned);
+    }
+    if state == 2 {
+        return Verdict::At(at);
+    }
+    Verdict::Refuse(Refusal::WrongState)
+}
+
+// The tests of one kind of event.
+pub fn of_kind(
+    head: Head,
+    cells: &[u32; 128],
+    times: &[u64; 64],
+    seats: &[u8; 128],
+    waiters: &[u64; 256],
+    e: Event,
+    time: u64,
+) -> Verdict
+    requires { ⌜ Whole (poolOf head (now cells) (now times) (now seats) (now waiters)) × (head .«waiting_count» ≤ 256) ⌝ }
+    ensures { λ r. ⌜ r ≡ orAt (target (poolOf head (now (cells .entry)) (now (times .entry)) (now (seats .entry)) (now (waiters .entry))) e) (first (ofKind (poolOf head (now (cells .entry)) (now (times .entry)) (now (seats .entry)) (now (waiters .entry))) e time)) ⌝ }
+{
+    match e {
+        Event::CheckOut(id) => request_verdict(head.last_request, head.waiting_count, id),
+        Event::WarmPool(id) => request_verdict(head.last_request, head.waiting_count, id),
+        Event::Abandon(id) => abandon_verdict(waiters, head.waiting_count, id),
+        Event::CheckIn(id, _, _, let_go) => in_time(
+            look(cells, times, seats, id),
+            2,
+            4,
+            let_go,
+            time,
+        ),
+        Event::Clear(_, _) => Verdict::At(0),
+        Event::MarkAsReady => Verdict::At(0),
+        Event::Succeeded(id) => {
+            let f = look(cells, times, seats, id);
+            in_state(f.at, f.state, 5, 5)
+        }
+        Event::SucceededForPool(id, opened) => in_time(
+            look(cells, times, seats, id),
+            6,
+            6,
+            opened,
+            time,
+        ),
+        Event::Failed(id) => {
+            let f = look(cells, times, seats, id);
+            in_state(f.at, f.state, 5, 6)
+        }
+        Event::Maintenance => Verdict::At(0),
+        Event::FillPool => Verdict::At(0),
+        Event::Pin(id) => {
+            let f = look(cells, times, seats, id);
+            pin_verdict(f.at, f.state)
+        }
+        Event::ReturnToPinner(id) => {
+            let f = look(cells, times, seats, id);
+            in_state(f.at, f.state, 3, 3)
+        }
+        Event::TakeFromPinner(id) => {
+            let f = look(cells, times, seats, id);
+            in_state(f.at, f.state, 3, 4)
+        }
+        Event::Close => Verdict::At(0),
+    }
+}
+
+// All tests of an event, in order.
+pub fn verdict(
+    head: Head,
+    cells: &[u32; 128],
+    times: &[u64; 64],
+    seats: &[u8; 128],
+    waiters: &[u64; 256],
+    e: Event,
+    time: u64,
+) -> Verdict
+    requires { ⌜ Whole (poolOf head (now cells) (now times) (now seats) (now waiters)) × (head .«waiting_count» ≤ 256) ⌝ }
+    ensures { λ r. ⌜ r ≡ verdict (poolOf head (now (cells .entry)) (now (times .entry)) (now (seats .entry)) (now (waiters .entry))) e time ⌝ }
+{
+    let m = head.mode;
+    match barred(head.clock, head.next_connection_id, m, time, e) {
+        Bar::By(r) => Verdict::Refuse(r),
+        Bar::Open => of_kind(head, cells, times, seats, waiters, e, time),
+    }
+}

@@ -14,19 +14,16 @@ use Rattle.definition.specs.Bytes.{serialOf, recordBytes}
 use Rattle.definition.specs.declared.Options.{Options}
 use Rattle.definition.specs.declared.PoolState.{PoolState}
 use Rattle.definition.specs.declared.ClosedReason.{ClosedReason}
-use Rattle.definition.specs.declared.ClosedReason.the-variants.{Idle, Stale}
 use Rattle.slots.specs.Order.{place, placeBy, shifted}
 use Rattle.slots.specs.OrderLaws.{length-shifted}
 use Rattle.slots.specs.Laid.{laid}
-use Rattle.slots.specs.View.{SlotPool, Slot, poolOf, Whole, waiterOf}
+use Rattle.slots.specs.View.{SlotPool, Whole, waiterOf}
 use Rattle.slots.specs.Done.{Room, Done, Told}
 use Rattle.slots.specs.DoneLaws.{done-then, done-emit, done-quiet, done-nothing, done-serial, done-at, done-as, told-turn, told-then}
-use Rattle.slots.specs.Codes.{reasonOf, replyOf, perishedNo}
-use Rattle.slots.specs.CodeLaws.{perished-no}
-use Rattle.slots.specs.Parts.{slot-at}
+use Rattle.slots.specs.Codes.{reasonOf, replyOf}
+use Rattle.slots.specs.Kept.{perishedNoAt, is-healthy, is-perished, perished-reason, perished-number, closed-whole}
 use Rattle.slots.specs.Needs.{CanCreate, CanClose, CanShelve, CanTake, CanWarm, CanServe}
 use Rattle.slots.specs.Slots.{checkedOutNo, withWaiters, idAt, staleAt, perishedAt, closeAt, shelve, turnAt, popBack, createPendingConnection, closePerishedAt, canServiceAt, canService, establish, lend, takeFrom, checkOut, dequeue, serveFront, service}
-use Rattle.slots.specs.declared.Head.{Head}
 
 -- ── The test ──
 
@@ -83,34 +80,7 @@ module _ (w : Waiter) (i id : ℕ) (q q' : SlotPool) {s n : ℕ} {l l' : List �
 
 -- ── What the code reads of the one at the back ──
 
--- the number that `perished` gives for slot i
-abbrev pub perishedCode : SlotPool → ℕ → ℕ
-perishedCode p i = if perishedAt p i then (if staleAt p i then 2 else 1) else 0
-
-pub perished-at : (h : Head) (cs ts ss ws : List ℕ) → Whole (poolOf h cs ts ss ws) → (i : ℕ) → i < 64
-    → perishedNo (h .mode .generation) (h .options .idle) (h .clock) (getD cs (64 + i) 0) (getD ts i 0) ≡ perishedCode (poolOf h cs ts ss ws) i
-perished-at h cs ts ss ws w i low =
-    ap (λ (x : Slot). perishedNo (h .mode .generation) (h .options .idle) (h .clock) (x .generation) (x .time)) (sym (slot-at h cs ts ss ws w i low)) ∙ perished-no (poolOf h cs ts ss ws) i
-
-reason-of : (b c : Bool) (r : ℕ) → r ≡ (if c then (if b then 2 else 1) else 0) → (r ≡ 0 → ⊥) → (c ≡ true) × (reasonOf r ≡ (if b then Stale else Idle))
-unfolding if_then_else_
-reason-of b false r e n = absurd (n e)
-reason-of true true r e n = (refl, ap reasonOf e)
-reason-of false true r e n = (refl, ap reasonOf e)
-
-healthy : (b c : Bool) (r : ℕ) → r ≡ (if c then (if b then 2 else 1) else 0) → r ≡ 0 → c ≡ false
-unfolding if_then_else_
-healthy b false r e n = refl
-healthy true true r e n = absurd (omega arith)
-healthy false true r e n = absurd (omega arith)
-
-code-most : (b c : Bool) (r : ℕ) → r ≡ (if c then (if b then 2 else 1) else 0) → r ≤ 2
-unfolding if_then_else_
-code-most b false r e = omega arith
-code-most true true r e = omega arith
-code-most false true r e = omega arith
-
-module _ (k : ℕ) (w : Waiter) (p : SlotPool) (i r : ℕ) (at : i ≡ getD (p .available) k 0) (e : r ≡ perishedCode p i) where
+module _ (k : ℕ) (w : Waiter) (p : SlotPool) (i r : ℕ) (at : i ≡ getD (p .available) k 0) (e : r ≡ perishedNoAt p i) where
   take-by : (b : Bool) → perishedAt p i ≡ b → takeFrom (suc k) w p ≡ (popBack >> (if b then (closePerishedAt i >> takeFrom k w) else lend w i)) p
   unfolding takeFrom
   take-by b g =
@@ -120,12 +90,11 @@ module _ (k : ℕ) (w : Waiter) (p : SlotPool) (i r : ℕ) (at : i ≡ getD (p .
   pub take-goes : (r ≡ 0 → ⊥) → takeFrom (suc k) w p ≡ (popBack >> (closeAt (reasonOf r) i >> takeFrom k w)) p
   unfolding if_then_else_ popBack closePerishedAt _>>_
   take-goes n =
-      let h = reason-of (staleAt p i) (perishedAt p i) r e n in
-      take-by true (h .0) ∙ ap (λ (x : ClosedReason). (popBack >> (closeAt x i >> takeFrom k w)) p) (sym (h .1))
+      take-by true (is-perished p i r e n) ∙ ap (λ (x : ClosedReason). (popBack >> (closeAt x i >> takeFrom k w)) p) (perished-reason p i r e n)
 
   pub take-lends : r ≡ 0 → takeFrom (suc k) w p ≡ (popBack >> lend w i) p
   unfolding if_then_else_
-  take-lends z = take-by false (healthy (staleAt p i) (perishedAt p i) r e z)
+  take-lends z = take-by false (is-healthy p i r e z)
 
 -- ── The back leaves the list, and is closed ──
 
@@ -150,13 +119,9 @@ place-set (suc n) zero (x ∷ l) h k = omega arith
 place-set (suc n) (suc i) (x ∷ l) h k = place-if (x =? 0) n _ (place-set n i l (omega arith) (omega arith))
 
 module _ (q : SlotPool) where
-  pub popped-whole : Whole q → Whole (popBack q .pool)
+  pub back-whole : Whole q → Whole (popBack q .pool)
   unfolding popBack
-  popped-whole w = record { ids = w .ids; slots = w .slots; available = rw length-set (w .available); waiters = w .waiters }
-
-  pub closed-whole : (r : ClosedReason) (i : ℕ) → Whole q → Whole (closeAt r i q .pool)
-  unfolding closeAt _>>_
-  closed-whole r i w = record { ids = rw length-set (w .ids); slots = rw length-set (w .slots); available = w .available; waiters = w .waiters }
+  back-whole w = record { ids = w .ids; slots = w .slots; available = rw length-set (w .available); waiters = w .waiters }
 
   pub back-closed-safe : (r : ClosedReason) (i : ℕ) → Whole q → CanTake q → 0 < q .availables → i < 64 → CanTake (closeAt r i (popBack q .pool) .pool)
   unfolding popBack closeAt _>>_
@@ -187,10 +152,10 @@ pub record Taking (w : Waiter) (s k₀ n₀ : ℕ) (p : SlotPool) (l₀ : List �
 pub record Turn (k : ℕ) (q : SlotPool) (i r : ℕ) : Type 0 where
   pub more : 0 < k
   pub back : i ≡ getD (q .available) (k - 1) 0
-  pub code : r ≡ perishedCode q i
+  pub code : r ≡ perishedNoAt q i
 
-pub turn-reason : {k : ℕ} {q : SlotPool} {i r : ℕ} → Turn k q i r → r ≤ 2
-turn-reason {k} {q} {i} {r} t = code-most (staleAt q i) (perishedAt q i) r (t .code)
+pub turn-reason : {k : ℕ} {q : SlotPool} {i r : ℕ} → Turn k q i r → (r ≡ 0 → ⊥) → (0 < r) × (r ≤ 5)
+turn-reason {k} {q} {i} {r} t n = perished-number q i r (t .code) n
 
 -- a turn after the back has left the list
 module _ {w : Waiter} {s k₀ n₀ : ℕ} {p : SlotPool} {l₀ : List ℕ} {k n : ℕ} {q q₁ : SlotPool} {l : List ℕ} {i r : ℕ}
@@ -210,7 +175,7 @@ module _ {w : Waiter} {s k₀ n₀ : ℕ} {p : SlotPool} {l₀ : List ℕ} {k n 
   turn-popped = done-quiet (popBack q) refl f
 
   pub turn-whole : Whole q₁
-  turn-whole = subst (λ (x : SlotPool). Whole x) (sym f) (popped-whole q (v .whole))
+  turn-whole = subst (λ (x : SlotPool). Whole x) (sym f) (back-whole q (v .whole))
 
   pub turn-shelves : CanShelve q₁ i
   unfolding popBack
@@ -240,7 +205,7 @@ module _ {w : Waiter} {s k₀ n₀ : ℕ} {p : SlotPool} {l₀ : List ℕ} {k n 
         told = told-turn (closeAt (reasonOf r) i) (takeFrom (k - 1) w) q₁ q' (told-turn popBack (closeAt (reasonOf r) i >> takeFrom (k - 1) w) q q₁ u turn-popped) (done-serial turn-serial d);
         safe = subst (λ (x : SlotPool). CanTake x) (sym y) (back-closed-safe q (reasonOf r) i (v .whole) (v .safe) (omega (arith, t .more, v .count)) turn-slot);
         count = ap (λ (x : ℕ). x - 1) (v .count) ∙ sym (ap (λ (x : SlotPool). x .availables) y);
-        whole = subst (λ (x : SlotPool). Whole x) (sym y) (closed-whole (popBack q .pool) (reasonOf r) i (popped-whole q (v .whole)));
+        whole = subst (λ (x : SlotPool). Whole x) (sym y) (closed-whole (popBack q .pool) (reasonOf r) i (back-whole q (v .whole)));
         room = (omega (arith, t .more, v .room .0, c, same), omega (arith, t .more, v .room .1, c));
         same = same ∙ v .same;
         serial = ap (λ (x : SlotPool). x .serial) y ∙ v .serial;

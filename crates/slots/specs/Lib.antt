@@ -12,3 +12,4 @@ pub mod Parts
 pub mod DoneLaws
 pub mod CodeLaws
 pub mod StepLaws
+pub mod Kept

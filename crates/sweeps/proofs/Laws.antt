@@ -23,7 +23,7 @@ use Rattle.slots.specs.DoneLaws.{done-quiet, done-serial, told-turn, told-done,
 use Rattle.slots.specs.Codes.{reasonOf}
 use Rattle.slots.specs.Needs.{taken, CanCreate, CanClose, CanPrune, CanFill}
 use Rattle.slots.specs.Slots.{closeAt, closePerishedAt, popFront, createPendingConnection, backgroundNo, prune, closeFront, fillUp, ensureMinConnections, zeroed, tellAll, withWaiters}
-use Rattle.sweeps.specs.Kept.{taken-set, vacant-place, zeroed-at, zeroed-more, perishedNoAt, is-healthy, is-perished, perished-reason, popped-whole, popped-prune, closed-whole, closed-prune, created-whole}
+use Rattle.slots.specs.Kept.{taken-set, vacant-place, zeroed-at, zeroed-more, perishedNoAt, is-healthy, is-perished, perished-reason, popped-whole, popped-prune, closed-whole, closed-prune, created-whole}
 
 -- ── From the available front ──
 

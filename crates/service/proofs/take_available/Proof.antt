@@ -5,7 +5,8 @@ use lib.ListN.{getD}
 use Rattle.slots.specs.View.{SlotPool, poolOf, waiterOf}
 use Rattle.slots.specs.Parts.{available-at}
 use Rattle.slots.specs.DoneLaws.{told-start}
-use Rattle.service.specs.Laws.{Taking, Turn, perishedCode, perished-at, turn-reason, turn-whole, turn-shelves, turn-closes, taking-lent, taking-step, taking-creates, taking-ends}
+use Rattle.slots.specs.Kept.{perishedNoAt, perished-at}
+use Rattle.service.specs.Laws.{Taking, Turn, turn-reason, turn-whole, turn-shelves, turn-closes, taking-lent, taking-step, taking-creates, taking-ends}
 use borrow.Author.Needs.{needs}
 use Rattle.service.proofs.take_available.Statement.{statement}
 use Rattle.service.proofs.take_available.Tie as tie
@@ -36,7 +37,7 @@ inside : (c : tie.After-wide Inv-loop μ-loop) → c .wide .result < 64
 inside c = omega (arith, back c, c .before .before .before .loop .inv .safe .prune .listed (c .before .before .before .loop .k - 1))
 
 -- why it is closed
-why : (c : tie.After-perished Inv-loop μ-loop) → c .perished .result ≡ perishedCode (at (c .before .before .before .before .before .before .before .before)) (c .before .before .before .before .before .wide .result)
+why : (c : tie.After-perished Inv-loop μ-loop) → c .perished .result ≡ perishedNoAt (at (c .before .before .before .before .before .before .before .before)) (c .before .before .before .before .before .wide .result)
 why c = let l = c .before .before .before .before .before .before .before .before .loop in c .perished .ensures ∙ perished-at (l .h) (l .cells) (l .times) (l .seats) (l .waiters) (l .inv .whole) (c .before .before .before .before .before .wide .result) (inside (c .before .before .before .before .before))
 
 turn : (c : tie.After-perished Inv-loop μ-loop) → Turn (c .before .before .before .before .before .before .before .before .loop .k) (at (c .before .before .before .before .before .before .before .before)) (c .before .before .before .before .before .wide .result) (c .perished .result)
@@ -98,7 +99,8 @@ close-connection-requires c κs =
     let v = c .before .before .before .before .before .before .before .before .before .before .before .before .before .before .before .before .before .before .before .loop .inv in
     let t = turn (c .before .before .before .before .before .before .before .before .before .before .before) in
     let e = c .before .before .before .before .before .before .pop-back .ensures in
-    (turn-whole v t e, turn-closes v t e, (omega (arith, v .room .0), omega (arith, v .room .1)), search needs, omega (arith, turn-reason t))
+    let k = turn-reason t (c .before .before .before .before .before .if1 .left) in
+    (turn-whole v t e, turn-closes v t e, (omega (arith, v .room .0), omega (arith, v .room .1)), k .0, k .1)
 
 loop-less : tie.Need-loop-less Inv-loop μ-loop
 loop-less c = omega (arith, c .before .before .before .before .before .before .before .before .before .before .before .before .before .before .before .before .before .before .before .before .before .before .loop-test .taken)

@@ -7,7 +7,7 @@ use Rattle.slots.specs.DoneLaws.{told-done}
 use Rattle.slots.specs.Codes.{reasonOf}
 use Rattle.slots.specs.Parts.{available-at}
 use Rattle.slots.specs.Slots.{prune, removePerished}
-use Rattle.sweeps.specs.Kept.{perishedNoAt, perished-at, perished-number}
+use Rattle.slots.specs.Kept.{perishedNoAt, perished-at, perished-number}
 use Rattle.sweeps.proofs.Laws.{Sweeping, sweep-start, sweep-room, sweep-turn, prune-stops, prune-goes}
 use borrow.Author.Needs.{needs}
 use Rattle.sweeps.proofs.remove_perished_connections.Statement.{statement}

@@ -1,0 +1,54 @@
+-- One exit of the code after the other, over variables.
+use mathlib.Core.Path.{_≡_, refl, sym, ap, _∙_}
+use mathlib.Core.Bool.{Bool, true, false}
+use mathlib.Core.Option.{Option}
+use Prim.Native.Nat.{ℕ, zero, suc}
+use Rattle.definition.specs.Words.{if_then_else_}
+use Rattle.definition.specs.Pool.{withDefaults, inRange}
+use Rattle.definition.specs.declared.Options.{Options}
+use Rattle.definition.specs.declared.ConnectionState.the-variants.{Vacant}
+use Rattle.definition.specs.declared.Refusal.the-variants.{Malformed, OptionsOutOfRange}
+use Rattle.slots.specs.declared.Outcome.the-variants.{Accepted}
+use Rattle.text.specs.Given.{optionsIn}
+use Rattle.text.specs.declared.Given.{Given}
+use Rattle.text.specs.declared.Given.the-variants as given
+use Rattle.pool.specs.View.{stateOf}
+use Rattle.pool.specs.Entry.{freshPool, notMade, making, makingFrom}
+use Rattle.pool.specs.declared.Pool.{Pool}
+use Rattle.pool.specs.declared.Made.{Made}
+
+-- a number of no state
+pub state-rest : (n : ℕ) → (n ≡ 0 → ⊥) → (n ≡ 1 → ⊥) → (n ≡ 2 → ⊥) → (n ≡ 3 → ⊥) → (n ≡ 4 → ⊥) → (n ≡ 5 → ⊥) → (n ≡ 6 → ⊥) → Vacant ≡ stateOf n
+state-rest zero a b c d e f g = absurd (a refl)
+state-rest (suc zero) a b c d e f g = absurd (b refl)
+state-rest (suc (suc zero)) a b c d e f g = absurd (c refl)
+state-rest (suc (suc (suc zero))) a b c d e f g = absurd (d refl)
+state-rest (suc (suc (suc (suc zero)))) a b c d e f g = absurd (e refl)
+state-rest (suc (suc (suc (suc (suc zero))))) a b c d e f g = absurd (f refl)
+state-rest (suc (suc (suc (suc (suc (suc zero)))))) a b c d e f g = absurd (g refl)
+state-rest (suc (suc (suc (suc (suc (suc (suc n))))))) a b c d e f g = refl
+
+-- ── Making ──
+
+module _ (o o' : Options) (b : Bool) (e : o' ≡ withDefaults o) (i : b ≡ inRange o') where
+  pub making-done : (p : Pool) → b ≡ true → p ≡ freshPool o' → _≡_ {A = Made} (record { outcome = Accepted 0; pool = p }) (making o)
+  unfolding making if_then_else_
+  making-done p t f =
+      let h : inRange (withDefaults o) ≡ true = ap inRange (sym e) ∙ sym i ∙ t in
+      let g : p ≡ freshPool (withDefaults o) = f ∙ ap freshPool e in
+      rw h (ap (λ (q : Pool). record { outcome = Accepted 0; pool = q }) g)
+
+  pub making-refused : (m : Made) → b ≡ false → m ≡ notMade OptionsOutOfRange → m ≡ making o
+  unfolding making if_then_else_
+  making-refused m t f =
+      let h : inRange (withDefaults o) ≡ false = ap inRange (sym e) ∙ sym i ∙ t in
+      rw h f
+
+module _ (g : Given) (l : Option Options) (e : optionsIn g ≡ l) (m : Made) where
+  pub from-some : (o : Options) → g ≡ given.Options o → m ≡ making o → m ≡ makingFrom l
+  unfolding makingFrom
+  from-some o k h = h ∙ ap makingFrom (ap optionsIn (sym k) ∙ e)
+
+  pub from-none : g ≡ given.Malformed → m ≡ notMade Malformed → m ≡ makingFrom l
+  unfolding makingFrom
+  from-none k h = h ∙ ap makingFrom (ap optionsIn (sym k) ∙ e)

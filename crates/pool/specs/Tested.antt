@@ -1,0 +1,99 @@
+-- The structure test of a pool value, and what a call of it is, case by case.
+use mathlib.Core.Path.{_≡_, refl, sym, ap, subst, _∙_}
+use mathlib.Core.Bool.{Bool, true, false, false≢true}
+use mathlib.Core.List.{List}
+use Prim.Native.Nat.{ℕ, _≤_, _<_}
+use lib.ListN.{length, length-map}
+use borrow.Author.Tests.{lt-ltb, le-ltb}
+use Rattle.definition.specs.Words.{if_then_else_}
+use Rattle.definition.specs.Refusals.{enoughRoom}
+use Rattle.definition.specs.Bytes.{frameOf}
+use Rattle.definition.specs.declared.Frame.{Frame}
+use Rattle.definition.specs.declared.Refusal.the-variants.{OutputShort, Malformed}
+use Rattle.slots.specs.View.{SlotPool, poolOf, Whole}
+use Rattle.slots.specs.Call.{world, call}
+use Rattle.slots.specs.declared.Head.{Head}
+use Rattle.slots.specs.declared.Outcome.{Outcome}
+use Rattle.slots.specs.declared.Outcome.the-variants.{Refused}
+use Rattle.rules.specs.Exact.{Exactly, exactly}
+use Rattle.pool.specs.View.{idOf, seen, viewOf, cellsOf, timesOf, seatsOf, poolFrom}
+use Rattle.pool.specs.Entry.{entered, keeps, back, entry}
+use Rattle.pool.specs.Laws.{view-columns, Apart, Again, slotsOf}
+use Rattle.pool.specs.declared.Slot.{Slot}
+use Rattle.pool.specs.declared.Pool.{Pool}
+use Rattle.pool.specs.declared.Parts.{Parts}
+use Rattle.pool.specs.declared.Table.{Table}
+
+-- what the types of the code say of every pool value
+pub record Typed (p : Pool) : Type 0 where
+  pub slots : length (p .slots) ≡ 64
+  pub available : length (p .available) ≡ 64
+  pub waiters : length (p .waiters) ≡ 256
+  pub serial : p .head .serial < 4294967296
+
+pub view-whole : (p : Pool) → Typed p → Whole (viewOf p)
+view-whole p t = record { ids = length-map (p .slots) idOf ∙ t .slots; slots = length-map (p .slots) seen ∙ t .slots; available = t .available; waiters = t .waiters }
+
+-- ── The test ───────────────────────────────────────────────────────────────────────────────────────────────────────────
+
+-- it is exact: a pool value passes exactly where its view keeps the rules
+pub keeps-exact : (p : Pool) → Typed p → Exactly (keeps p) (viewOf p)
+keeps-exact p t =
+    let e = view-columns p (t .slots) in
+    subst (λ (v : SlotPool). Exactly (keeps p) v) (sym e)
+    (exactly (p .head) (cellsOf (p .slots)) (timesOf (p .slots)) (seatsOf (p .slots) (p .available)) (p .waiters) (keeps p) (subst Whole e (view-whole p t)) (t .serial) refl)
+
+-- and any other exact one says the same
+pub same-test : (a b : Bool) (v : SlotPool) → Exactly a v → Exactly b v → a ≡ b
+same-test true true v x y = refl
+same-test true false v x y = absurd (false≢true (y .complete (x .sound refl)))
+same-test false true v x y = absurd (false≢true (x .complete (y .sound refl)))
+same-test false false v x y = refl
+
+-- ── A call, case by case ───────────────────────────────────────────────────────────────────────────────────────────────
+
+module _ (p : Pool) (b l : List ℕ) where
+  pub entry-short : length l < enoughRoom → entry p b l ≡ entered p l (Refused OutputShort)
+  unfolding entry if_then_else_
+  entry-short h = rw (lt-ltb (length l) enoughRoom h)
+
+  pub entry-broken : enoughRoom ≤ length l → keeps p ≡ false → entry p b l ≡ entered p l (Refused Malformed)
+  unfolding entry if_then_else_
+  entry-broken h k = rw (le-ltb (length l) enoughRoom h, k)
+
+  pub entry-kept : enoughRoom ≤ length l → keeps p ≡ true → entry p b l ≡ back (call (viewOf p) l (frameOf b))
+  unfolding entry if_then_else_
+  entry-kept h k = rw (le-ltb (length l) enoughRoom h, k)
+
+-- ── What the code does ─────────────────────────────────────────────────────────────────────────────────────────────────
+
+module _ (p : Pool) (t : Typed p) (r : Parts) (a : Apart (p .slots) (p .available) r) where
+  -- the columns that were taken are the view's
+  pub apart-view : poolOf (p .head) (r .cells) (r .times) (r .seats) (p .waiters) ≡ viewOf p
+  apart-view =
+      ap (λ (x : List ℕ). poolOf (p .head) x (r .times) (r .seats) (p .waiters)) (a .cells)
+      ∙ ap (λ (x : List ℕ). poolOf (p .head) (cellsOf (p .slots)) x (r .seats) (p .waiters)) (a .times)
+      ∙ ap (λ (x : List ℕ). poolOf (p .head) (cellsOf (p .slots)) (timesOf (p .slots)) x (p .waiters)) (a .seats)
+      ∙ sym (view-columns p (t .slots))
+
+  pub apart-whole : Whole (poolOf (p .head) (r .cells) (r .times) (r .seats) (p .waiters))
+  apart-whole = subst Whole (sym apart-view) (view-whole p t)
+
+  module _ (k : Bool) (x : Exactly k (poolOf (p .head) (r .cells) (r .times) (r .seats) (p .waiters))) where
+    pub apart-test : keeps p ≡ k
+    apart-test = same-test (keeps p) k (viewOf p) (keeps-exact p t) (subst (λ (v : SlotPool). Exactly k v) apart-view x)
+
+    pub step-broken : (b l : List ℕ) → enoughRoom ≤ length l → k ≡ false → entered p l (Refused Malformed) ≡ entry p b l
+    step-broken b l h e = sym (entry-broken p b l h (apart-test ∙ e))
+
+    pub step-done : (b l : List ℕ) → enoughRoom ≤ length l → k ≡ true → (f : Frame) → f ≡ frameOf b
+        → (h : Head) (cs ts ss ws l' : List ℕ) (o : Outcome) (g : Table)
+        → world (poolOf h cs ts ss ws) l' o ≡ call (poolOf (p .head) (r .cells) (r .times) (r .seats) (p .waiters)) l f → Again cs ts ss g
+        → entered (record { head = h; slots = g .slots; available = g .available; waiters = ws }) l' o ≡ entry p b l
+    unfolding poolFrom
+    step-done b l low e f ef h cs ts ss ws l' o g w n =
+        let u : world (poolOf h cs ts ss ws) l' o ≡ call (viewOf p) l (frameOf b) = w ∙ ap (λ (v : SlotPool). call v l f) apart-view ∙ ap (call (viewOf p) l) ef in
+        ap (λ (x : List Slot). entered (record { head = h; slots = x; available = g .available; waiters = ws }) l' o) (n .slots)
+        ∙ ap (λ (x : List ℕ). entered (record { head = h; slots = slotsOf cs ts ss; available = x; waiters = ws }) l' o) (n .available)
+        ∙ ap back u
+        ∙ sym (entry-kept p b l low (apart-test ∙ e))

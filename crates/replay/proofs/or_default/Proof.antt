@@ -1,0 +1,19 @@
+use mathlib.Core.Path.{refl}
+use borrow.Author.Tests.{eq-eqb, ne-eqb}
+use Rattle.definition.specs.Words.{if_then_else_}
+use borrow.Author.Needs.{needs}
+use Rattle.replay.proofs.or_default.Statement.{statement}
+use Rattle.replay.proofs.or_default.Tie as tie
+use Rattle.replay.proofs.or_default.Reads as reads
+use Rattle.replay.proofs.or_default.Lts as lts
+
+returns : tie.Need-returns
+unfolding if_then_else_
+returns c = rw (eq-eqb (c .before .args .n) 0 (c .if1 .taken))
+
+returns-2 : tie.Need-returns-2
+unfolding if_then_else_
+returns-2 c = rw (ne-eqb (c .before .args .n) 0 (c .if1 .left))
+
+pub or-default-spec : {M : Type 1} → statement M
+or-default-spec = tie.close (tie.spec returns returns-2)

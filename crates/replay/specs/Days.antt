@@ -1,0 +1,104 @@
+-- A whole day in one call: its log, where the output has room for it.
+use mathlib.Core.Path.{_≡_, refl, sym, ap, subst, _∙_}
+use mathlib.Core.Bool.{Bool, true, false, true≢false, false≢true, _&&_}
+use mathlib.Core.List.{List, [], _∷_, _++_, append-nil}
+use Prim.Native.Nat.{ℕ, _+_, _-_, _≤_, _<_}
+use native.Mathlib.Omega.{arith}
+use borrow.Author.Tests.{eq-eqb, eqb-true, le-leb, leb-true}
+use lib.ListN.{length, drop, replicate, length-append, length-replicate}
+use Rattle.definition.specs.Words.{if_then_else_, _=?_, _≤?_, _<?_}
+use Rattle.definition.specs.Day.{logOf, framesUsed}
+use Rattle.definition.specs.declared.Options.{Options}
+use Rattle.refinement.specs.Formed.{freshSlots}
+use Rattle.replay.specs.declared.Day.{Day}
+use Rattle.replay.specs.Feed.{Took, Machine, View, Fed, lineRoom, stop, joined, emptied, lineAt, push, feed, feed-nil, feedIn, goOn, andThen, ended, finish, some-reads}
+use Rattle.replay.specs.Chunks.{go-stops}
+use Rattle.replay.specs.OnSlots.{Play, onSlots}
+use Rattle.replay.specs.Meaning.{begun, Writes, feed-writes}
+
+-- before the first byte, with a blank pool in the pool's place
+abbrev pub blank : Options
+blank = record { maximum = 0; minimum = 0; connecting = 0; idle = 0 }
+
+abbrev pub opening : (budget : ℕ) → View Play
+opening budget = emptied (begun budget (freshSlots blank) (replicate 8192 0))
+
+-- what a call says, and whether that is all
+pub record Told : Type 0 where
+  pub whole : Bool
+  pub took : Took Play ℕ
+
+abbrev pub all? : (room : ℕ) → Fed Play ℕ → Bool
+all? room k = (length (k .rest) =? 0) && (lineRoom ≤? room - length (k .out))
+
+abbrev pub toldOf : Bool → Fed Play ℕ → Told
+toldOf b k = if b then record { whole = true; took = ended onSlots k } else record { whole = false; took = record { state = k .view .state; out = k .out } }
+
+-- the text is read as far as there is room, and ended where it is read to its end and there is room for one event more
+unfoldable pub dayIn : (room budget : ℕ) → (text : List ℕ) → Told
+dayIn room budget text = toldOf (all? room (goOn onSlots room (opening budget) text)) (goOn onSlots room (opening budget) text)
+
+pub record Logged (t : Told) (before after : List ℕ) (d : Day) : Type 0 where
+  pub whole : d .whole ≡ t .whole
+  pub used : d .used ≡ t .took .state .used
+  pub written : d .written ≡ length (t .took .out)
+  pub laid : after ≡ t .took .out ++ drop (d .written) before
+
+-- ── What is said is the definition's log, where it is all ──────────────────────────────────────────────────────────────────
+
+opening-writes : (budget : ℕ) (text : List ℕ) → Writes (ended onSlots (feed onSlots (opening budget) text)) budget text
+opening-writes budget text = feed-writes budget (freshSlots blank) (replicate 8192 0) text (simp length-replicate (omega arith))
+
+all-read : (k : Fed Play ℕ) → k .rest ≡ [] → ended onSlots (andThen onSlots k (k .rest)) ≡ ended onSlots k
+all-read k e = ap (λ (x : List ℕ). ended onSlots (andThen onSlots k x)) e ∙ ap (λ (f : Fed Play ℕ). ended onSlots (joined (k .out) f)) (feed-nil onSlots (k .view)) ∙ done k
+  where
+    done : (k : Fed Play ℕ) → ended onSlots (joined (k .out) (stop (k .view) [])) ≡ ended onSlots k
+    done k = rw append-nil
+
+no-length : (l : List ℕ) → length l ≡ 0 → l ≡ []
+no-length [] e = refl
+no-length (x ∷ l) e = absurd (omega arith)
+
+both : (a b : Bool) → (a && b) ≡ true → (a ≡ true) × (b ≡ true)
+both true true h = (refl, refl)
+both true false h = absurd (false≢true h)
+both false b h = absurd (false≢true h)
+
+module _ (room budget : ℕ) (text : List ℕ) where
+  abbrev got : Fed Play ℕ
+  got = goOn onSlots room (opening budget) text
+
+  told-whole : (b : Bool) → all? room got ≡ b → toldOf b got .whole ≡ true → Writes (toldOf b got .took) budget text
+  unfolding if_then_else_
+  told-whole true e h =
+      let z : got .rest ≡ [] = no-length (got .rest) (eqb-true (length (got .rest)) 0 (both _ _ e .0)) in
+      subst (λ (t : Took Play ℕ). Writes t budget text) (ap (ended onSlots) (some-reads onSlots room (opening budget) text) ∙ all-read got z) (opening-writes budget text)
+  told-whole false e h = absurd (false≢true h)
+
+  pub day-whole : dayIn room budget text .whole ≡ true → Writes (dayIn room budget text .took) budget text
+  unfolding dayIn
+  day-whole h = told-whole (all? room got) refl h
+
+  -- what is written is no longer than the log
+  written-less : length (got .out) ≤ length (logOf budget text)
+  written-less =
+      let f = feed onSlots (got .view) (got .rest) in
+      let t = finish onSlots (f .view .state) (f .view .held) in
+      let e : (got .out ++ f .out) ++ t .out ≡ logOf budget text = ap (λ (k : Fed Play ℕ). ended onSlots k .out) (sym (some-reads onSlots room (opening budget) text)) ∙ opening-writes budget text .log in
+      let n : length ((got .out ++ f .out) ++ t .out) ≡ length (got .out ++ f .out) + length (t .out) = length-append (got .out ++ f .out) (t .out) in
+      let m : length (got .out ++ f .out) ≡ length (got .out) + length (f .out) = length-append (got .out) (f .out) in
+      omega (arith, ap length e, n, m)
+
+  all-true : (b : Bool) → all? room got ≡ b → b ≡ true → toldOf b got .whole ≡ true
+  unfolding if_then_else_
+  all-true true e h = refl
+  all-true false e h = h
+
+  -- room for the log and for one event more is enough
+  pub day-room : length (logOf budget text) + lineRoom ≤ room → dayIn room budget text .whole ≡ true
+  unfolding dayIn
+  day-room h =
+      let w = written-less in
+      let z : length (got .rest) ≡ 0 = go-stops onSlots room (opening budget) text (omega arith) in
+      let e : all? room got ≡ true = rw (eq-eqb (length (got .rest)) 0 z, le-leb lineRoom (room - length (got .out)) (omega arith)) in
+      all-true (all? room got) refl e

@@ -1,0 +1,12 @@
+pub mod Feed
+pub mod Whole
+pub mod Lists
+pub mod Few
+pub mod Laying
+pub mod OnSlots
+pub mod Meaning
+pub mod Chunks
+pub mod Code
+pub mod Resumed
+pub mod Days
+pub mod Once

@@ -1,0 +1,118 @@
+-- The machine on slots: what the code does with a line, byte for byte.
+use mathlib.Core.Path.{_≡_, refl, ap, _∙_}
+use mathlib.Core.Bool.{Bool, true, false}
+use mathlib.Core.List.{List, [], _∷_}
+use mathlib.Core.Option.{Option, none, some}
+use Prim.Native.Nat.{ℕ, _+_, _≤_}
+use lib.ListN.{length, take}
+use Rattle.definition.specs.Words.{if_then_else_, _<?_}
+use Rattle.definition.specs.Pool.{withDefaults, inRange}
+use Rattle.definition.specs.Bytes.{lineOf, frameOfLine, optionsOfLine}
+use Rattle.definition.specs.Day.{RefusedLine, entryBytes}
+use Rattle.definition.specs.declared.Options.{Options}
+use Rattle.definition.specs.declared.Refusal.{Refusal}
+use Rattle.definition.specs.declared.Refusal.the-variants.{Malformed, OptionsOutOfRange}
+use Rattle.slots.specs.View.{SlotPool}
+use Rattle.slots.specs.Call.{World, call}
+use Rattle.slots.specs.declared.Outcome.{Outcome}
+use Rattle.slots.specs.declared.Outcome.the-variants.{Refused, Accepted}
+use Rattle.refinement.specs.Formed.{freshSlots}
+use Rattle.text.specs.Printed.{printed}
+use Rattle.replay.specs.declared.Phase.{Phase}
+use Rattle.replay.specs.declared.Phase.the-variants.{First, Going, Ended}
+use Rattle.replay.specs.Feed.{Took, Machine, most, quiet}
+use Rattle.replay.specs.Whole.{Tame, frame-cap, options-cap}
+
+-- the pool counts only while the run is going; the scratch is the buffer that events lay their records in
+pub record Play : Type 0 where
+  pub phase : Phase
+  pub used : ℕ
+  pub budget : ℕ
+  pub pool : SlotPool
+  pub scratch : List ℕ
+
+-- the log's line for a refused one
+abbrev pub refusedLine : Refusal → (line : ℕ) → List ℕ
+refusedLine r line = lineOf (entryBytes (RefusedLine r line))
+
+-- what a call's answer is in the log, with the records in the scratch
+abbrev pub saidOf : Outcome → List ℕ → (line : ℕ) → List ℕ
+saidOf (Refused r) scratch line = refusedLine r line
+saidOf (Accepted n) scratch line = printed n scratch
+
+module _ (s : Play) where
+  abbrev pub badly : Refusal → Took Play ℕ
+  badly r = record { state = record { phase = Ended; used = s .used; budget = s .budget; pool = s .pool; scratch = s .scratch }; out = refusedLine r 1 }
+
+  abbrev pub ready : Options → Took Play ℕ
+  ready o = quiet (record { phase = Going; used = s .used; budget = s .budget; pool = freshSlots o; scratch = s .scratch })
+
+  abbrev pub made : Options → Took Play ℕ
+  made o = if inRange o then ready o else badly OptionsOutOfRange
+
+  abbrev pub options : Option Options → Took Play ℕ
+  options none = badly Malformed
+  options (some o) = made (withDefaults o)
+
+  abbrev pub answered : World → Took Play ℕ
+  answered w = record { state = record { phase = Going; used = s .used + 1; budget = s .budget; pool = w .pool; scratch = w .out }; out = saidOf (w .outcome) (w .out) (s .used + 2) }
+
+  abbrev pub lineIn : Phase → List ℕ → Took Play ℕ
+  lineIn First l = options (optionsOfLine l)
+  lineIn Going l = if s .used <? s .budget then answered (call (s .pool) (s .scratch) (frameOfLine l)) else quiet s
+  lineIn Ended l = quiet s
+
+  abbrev pub lastIn : Phase → Took Play ℕ
+  lastIn First = badly Malformed
+  lastIn Going = quiet s
+  lastIn Ended = quiet s
+
+unfoldable pub lineSlots : Play → List ℕ → Took Play ℕ
+lineSlots s l = lineIn s (s .phase) l
+
+unfoldable pub lastSlots : Play → Took Play ℕ
+lastSlots s = lastIn s (s .phase)
+
+abbrev pub onSlots : Machine Play ℕ
+onSlots = record { line = lineSlots; last = lastSlots }
+
+-- ── It is tame ─────────────────────────────────────────────────────────────────────────────────────────────────────────────
+
+phase-cap : (s : Play) (g : Phase) (l : List ℕ) → lineIn s g (take most l) ≡ lineIn s g l
+phase-cap s First l = ap (options s) (options-cap l)
+phase-cap s Going l = ap (λ f. if s .used <? s .budget then answered s (call (s .pool) (s .scratch) f) else quiet s) (frame-cap l)
+phase-cap s Ended l = refl
+
+pub line-cap : (s : Play) (l : List ℕ) → lineSlots s (take most l) ≡ lineSlots s l
+unfolding lineSlots
+line-cap s l = phase-cap s (s .phase) l
+
+abbrev Over : Took Play ℕ → Type 0
+Over k = lastSlots (k .state) ≡ quiet (k .state)
+
+if-over : (b : Bool) (j k : Took Play ℕ) → Over j → Over k → Over (if b then j else k)
+unfolding if_then_else_
+if-over true j k g h = g
+if-over false j k g h = h
+
+options-over : (s : Play) (x : Option Options) → Over (options s x)
+unfolding lastSlots
+options-over s none = refl
+options-over s (some o) = if-over (inRange (withDefaults o)) (ready s (withDefaults o)) (badly s OptionsOutOfRange) refl refl
+
+quiet-over : (s : Play) (g : Phase) → s .phase ≡ g → lastIn s g ≡ quiet s → Over (quiet s)
+unfolding lastSlots
+quiet-over s g e h = ap (lastIn s) e ∙ h
+
+phase-over : (s : Play) (g : Phase) → s .phase ≡ g → (l : List ℕ) → Over (lineIn s g l)
+unfolding lastSlots
+phase-over s First e l = options-over s (optionsOfLine l)
+phase-over s Going e l = if-over (s .used <? s .budget) (answered s (call (s .pool) (s .scratch) (frameOfLine l))) (quiet s) refl (quiet-over s Going e refl)
+phase-over s Ended e l = quiet-over s Ended e refl
+
+line-over : (s : Play) (l : List ℕ) → Over (lineSlots s l)
+unfolding lineSlots
+line-over s l = phase-over s (s .phase) refl l
+
+pub slots-tame : Tame onSlots
+slots-tame = record { cap = line-cap; over = line-over }

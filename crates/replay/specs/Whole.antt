@@ -1,0 +1,136 @@
+-- What is fed is the text's lines, one after the other.
+use mathlib.Core.Path.{_≡_, refl, sym, ap, _∙_}
+use mathlib.Core.Bool.{Bool, true, false}
+use mathlib.Core.List.{List, [], _∷_, _++_, append-assoc, append-nil}
+use Prim.Native.Nat.{ℕ, zero, suc, _<_}
+use native.Mathlib.Omega.{arith}
+use lib.ListN.{length, take, length-take}
+use lib.Seq.{take-all}
+use lib.Dec.{leb}
+use borrow.Author.Tests.{leb-true, leb-false, ne-eqb}
+use Rattle.definition.specs.Words.{if_then_else_, _=?_}
+use Rattle.definition.specs.Bytes.{newline, bytesOf, frameOfLine, optionsOfLine, orBad, orNone}
+use Rattle.definition.specs.Day.{before, linesOf}
+use mathlib.Core.Option.{none}
+use Rattle.replay.specs.Feed.{Took, Machine, View, Fed, most, quiet, thereafter, stop, joined, emptied, push, lineAt, feed, feed-true, feed-false, feed-nil, finish, ended}
+
+-- ── A long line: its first 50 bytes tell that it is malformed ──────────────────────────────────────────────────────────────
+
+no-bytes : (l : List ℕ) → (length l ≡ 49 → ⊥) → bytesOf l ≡ none
+unfolding bytesOf if_then_else_
+no-bytes l h = rw (ne-eqb (length l) 49 h)
+
+pub bytes-cap : (l : List ℕ) → bytesOf (take most l) ≡ bytesOf l
+bytes-cap l = go (leb (length l) most) refl
+  where
+    go : (b : Bool) → leb (length l) most ≡ b → bytesOf (take most l) ≡ bytesOf l
+    go true e = ap bytesOf (take-all most l (leb-true (length l) most e))
+    go false e =
+        let h : most < length l = leb-false (length l) most e in
+        let n : length (take most l) ≡ most = simp length-take (omega arith) in
+        no-bytes (take most l) (λ z. omega arith) ∙ sym (no-bytes l (λ z. omega arith))
+
+pub frame-cap : (l : List ℕ) → frameOfLine (take most l) ≡ frameOfLine l
+unfolding frameOfLine
+frame-cap l = ap orBad (bytes-cap l)
+
+pub options-cap : (l : List ℕ) → optionsOfLine (take most l) ≡ optionsOfLine l
+unfolding optionsOfLine
+options-cap l = ap orNone (bytes-cap l)
+
+pub cap-append : (n : ℕ) (x y : List ℕ) → take n (take n x ++ y) ≡ take n (x ++ y)
+cap-append zero x y = refl
+cap-append (suc n) [] y = refl
+cap-append (suc n) (a ∷ x) y = ap (λ (l : List ℕ). a ∷ l) (cap-append n x y)
+
+-- ── Lines ──────────────────────────────────────────────────────────────────────────────────────────────────────────────
+
+-- lines of a text before which h stands
+abbrev pub onto : List ℕ → List (List ℕ) → List (List ℕ)
+onto [] ls = ls
+onto (a ∷ h) [] = (a ∷ h) ∷ []
+onto (a ∷ h) (l ∷ ls) = ((a ∷ h) ++ l) ∷ ls
+
+onto-line : (h l : List ℕ) (ls : List (List ℕ)) → onto h (l ∷ ls) ≡ (h ++ l) ∷ ls
+onto-line [] l ls = refl
+onto-line (a ∷ h) l ls = refl
+
+onto-before : (h : List ℕ) (c : ℕ) (ls : List (List ℕ)) → onto h (before c ls) ≡ onto (h ++ c ∷ []) ls
+onto-before [] c [] = refl
+onto-before [] c (l ∷ ls) = refl
+onto-before (a ∷ h) c [] = refl
+onto-before (a ∷ h) c (l ∷ ls) = ap (λ (x : List ℕ). (a ∷ x) ∷ ls) (sym (append-assoc h (c ∷ []) l))
+
+-- a machine whose lines may be capped, and to which the end says nothing after a line
+pub record Tame {S O : Type 0} (m : Machine S O) : Type 0 where
+  pub cap : (s : S) (l : List ℕ) → m .line s (take most l) ≡ m .line s l
+  pub over : (s : S) (l : List ℕ) → m .last (m .line s l .state) ≡ quiet (m .line s l .state)
+
+module _ {S O : Type 0} (m : Machine S O) where
+  unfoldable pub lines : S → List (List ℕ) → Took S O
+  lines s [] = m .last s
+  lines s (l ∷ ls) = thereafter (m .line s l) (lines (m .line s l .state) ls)
+
+module _ {S O : Type 0} (m : Machine S O) (tame : Tame m) where
+  abbrev capped : S → List ℕ → View S
+  capped s h = record { state = s; held = take most h }
+
+  one-line : (s : S) (h : List ℕ) → lines m s (h ∷ []) ≡ m .line s h
+  unfolding lines
+  one-line s h = ap (thereafter (m .line s h)) (tame .over s h) ∙ done (m .line s h)
+    where
+      done : (k : Took S O) → thereafter k (quiet (k .state)) ≡ k
+      done k = rw append-nil
+
+  no-line : (s : S) → m .last s ≡ lines m s []
+  unfolding lines
+  no-line s = refl
+
+  at-end : (s : S) (h : List ℕ) → finish m s (take most h) ≡ lines m s (onto h [])
+  unfolding finish
+  at-end s [] = no-line s
+  at-end s (c ∷ h) = tame .cap s (c ∷ h) ∙ sym (one-line s (c ∷ h))
+
+  lines-more : (s : S) (l : List ℕ) (ls : List (List ℕ)) → lines m s (l ∷ ls) ≡ thereafter (m .line s l) (lines m (m .line s l .state) ls)
+  unfolding lines
+  lines-more s l ls = refl
+
+  lines-true : (c : ℕ) (t : List ℕ) → c =? newline ≡ true → linesOf (c ∷ t) ≡ (c ∷ []) ∷ linesOf t
+  unfolding linesOf if_then_else_
+  lines-true c t e = rw e
+
+  lines-false : (c : ℕ) (t : List ℕ) → c =? newline ≡ false → linesOf (c ∷ t) ≡ before c (linesOf t)
+  unfolding linesOf if_then_else_
+  lines-false c t e = rw e
+
+  lines-nil : linesOf [] ≡ []
+  unfolding linesOf
+  lines-nil = refl
+
+  joined-ended : (k : Took S O) (f : Fed S O) → ended m (joined (k .out) f) ≡ thereafter k (ended m f)
+  joined-ended k f = rw append-assoc
+
+  whole-case : (s : S) (h : List ℕ) (c : ℕ) (t : List ℕ) (b : Bool) → c =? newline ≡ b → ((q : S) (g : List ℕ) → ended m (feed m (capped q g) t) ≡ lines m q (onto g (linesOf t)))
+      → ended m (feed m (capped s h) (c ∷ t)) ≡ lines m s (onto h (linesOf (c ∷ t)))
+  whole-case s h c t true e ih =
+      let l = h ++ c ∷ [] in
+      let k = m .line s l in
+      ap (ended m) (feed-true m (capped s h) c t e)
+      ∙ ap (λ (x : Took S O). ended m (joined (x .out) (feed m (emptied (x .state)) t))) (ap (m .line s) (cap-append most h (c ∷ [])) ∙ tame .cap s l)
+      ∙ joined-ended k (feed m (emptied (k .state)) t)
+      ∙ ap (thereafter k) (ih (k .state) [])
+      ∙ sym (ap (λ (x : List (List ℕ)). lines m s (onto h x)) (lines-true c t e) ∙ ap (lines m s) (onto-line h (c ∷ []) (linesOf t)) ∙ lines-more s l (linesOf t))
+  whole-case s h c t false e ih =
+      ap (ended m) (feed-false m (capped s h) c t e)
+      ∙ ap (λ (x : List ℕ). ended m (feed m (record { state = s; held = x }) t)) (cap-append most h (c ∷ []))
+      ∙ ih s (h ++ c ∷ [])
+      ∙ sym (ap (λ (x : List (List ℕ)). lines m s (onto h x)) (lines-false c t e) ∙ ap (lines m s) (onto-before h c (linesOf t)))
+
+  -- any bytes after h
+  pub feed-lines : (s : S) (h t : List ℕ) → ended m (feed m (capped s h) t) ≡ lines m s (onto h (linesOf t))
+  feed-lines s h [] = ap (ended m) (feed-nil m (capped s h)) ∙ at-end s h ∙ sym (ap (λ (x : List (List ℕ)). lines m s (onto h x)) lines-nil)
+  feed-lines s h (c ∷ t) = whole-case s h c t (c =? newline) refl (λ q g. feed-lines q g t)
+
+  -- a whole text
+  pub text-lines : (s : S) (t : List ℕ) → ended m (feed m (emptied s) t) ≡ lines m s (linesOf t)
+  text-lines s t = feed-lines s [] t

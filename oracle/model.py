@@ -322,6 +322,14 @@ def read_frame(line):
     return kind, flags, number, now, second
 
 
+def write_options(maximum=0, minimum=0, connecting=0, idle=0):
+    return OPTIONS.pack(0, maximum, minimum, connecting, idle).hex().encode() + b"\n"
+
+
+def write_frame(kind, number=0, now=0, second=0, flags=0):
+    return FRAME.pack(kind, flags, 0, number, now, second).hex().encode() + b"\n"
+
+
 def refused(refusal, line):
     return RECORD.pack(32, refusal.args[0], 0, 0, line % 2**32, 0)
 

@@ -46,7 +46,8 @@ usage: oracle [--budget N] [--used]            a day on standard input, its log 
        oracle campaign [--many] N SEED PROGRAM..      generated days, PROGRAM against the oracle
        oracle campaign [--many] --exhaust DEPTH PROGRAM..
        oracle long FRAMES SEED                 one long day, nearly all of it accepted
-       oracle speed FRAMES SEED                frames a second on that day, with text and without";
+       oracle speed FRAMES SEED                frames a second on that day, with text and without
+       oracle speed FILE                       the same on a day in a file";
 
 fn main() {
     let arguments: Vec<String> = env::args().skip(1).collect();
@@ -58,7 +59,10 @@ fn main() {
         ["exhaust", depth] => stored::print(generate::Source::exhaustive(number(depth))),
         ["campaign", rest @ ..] => campaign(rest),
         ["long", frames, seed] => put(&generate::long_day(number(frames), number(seed))),
-        ["speed", frames, seed] => speed::measure(number(frames), number(seed)),
+        ["speed", frames, seed] => {
+            speed::measure(&generate::long_day(number(frames), number(seed)))
+        }
+        ["speed", file] => speed::measure(&read(file)),
         options => replay(options),
     }
 }
@@ -101,6 +105,10 @@ fn campaign(mut words: &[&str]) {
         usage();
     }
     campaign::run(source, campaign::Subject::new(program, many));
+}
+
+fn read(file: &str) -> Vec<u8> {
+    std::fs::read(file).unwrap_or_else(|e| stop(format!("cannot read {file}: {e}")))
 }
 
 fn number(word: &str) -> u64 {

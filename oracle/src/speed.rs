@@ -4,7 +4,6 @@ use std::{hint::black_box, time::WallInstant};
 
 use crate::{
     added::Replay,
-    generate::long_day,
     replay::whole,
     text::{line_bytes, Bytes},
 };
@@ -15,14 +14,13 @@ const LOG_LINE: usize = 33;
 /// The machine may be busy, so the best of these counts.
 const RUNS: usize = 7;
 
-pub(crate) fn measure(frames: u64, seed: u64) {
-    let day = long_day(frames, seed);
-    let printed = report("with text", frames, || whole(&day).len() / LOG_LINE);
-
+pub(crate) fn measure(day: &[u8]) {
     let lines: Vec<Option<Bytes>> = day
         .split_inclusive(|&b| b == b'\n')
         .map(line_bytes)
         .collect();
+    let frames = lines.len().saturating_sub(1);
+    let printed = report("with text", frames, || whole(day).len() / LOG_LINE);
     let counted = report("without text", frames, || {
         let mut replay = Replay::new(u64::MAX);
         let mut records = Vec::new();
@@ -38,7 +36,7 @@ pub(crate) fn measure(frames: u64, seed: u64) {
 }
 
 /// Runs several times, prints the best and gives the records of a run.
-fn report(name: &str, frames: u64, run: impl Fn() -> usize) -> usize {
+fn report(name: &str, frames: usize, run: impl Fn() -> usize) -> usize {
     let mut records = 0;
     let mut best = f64::INFINITY;
     let clock = Clock::start();

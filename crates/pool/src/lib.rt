@@ -1,8 +1,7 @@
 // The entry points: a pool value, bytes and an output, for all inputs, with no condition on any.
 ghost use mathlib.Core.Path.{_≡_};
-ghost use mathlib.Core.Bool.{_&&_};
 ghost use Prim.Native.Nat.{_-_};
-ghost use Rattle.definition.specs.Pool.{stateNo, withDefaults, inRange, orDefault};
+ghost use Rattle.definition.specs.Pool.{stateNo};
 ghost use Rattle.definition.specs.Bytes.{optionsOf};
 ghost use Rattle.pool.specs.View.{stateOf, slotOf};
 ghost use Rattle.pool.specs.Entry.{entered, entry, freshPool, notMade, making, makingFrom, countsOf};
@@ -10,11 +9,9 @@ ghost use Rattle.pool.specs.Laws.{Apart, Again};
 use definition::ConnectionState;
 use definition::Options;
 use definition::PinnedState;
-use definition::PoolState;
 use definition::Purpose;
 use definition::Refusal;
 use slots::Head;
-use slots::Mode;
 use slots::Outcome;
 use text::Given;
 
@@ -217,62 +214,10 @@ pub fn event(pool: &mut Pool, frame: &[u8], out: &mut [u8]) -> Outcome
 
 // ── making a pool ──
 
-fn or_default(value: u32, n: u32) -> u32
-    ensures { λ r. ⌜ r ≡ orDefault value n ⌝ }
-{
-    if n == 0 {
-        return value;
-    }
-    n
-}
-
-fn with_defaults(o: Options) -> Options
-    ensures { λ r. ⌜ r ≡ withDefaults o ⌝ }
-{
-    Options {
-        maximum: or_default(Pool::DEFAULT_MAX_POOL_SIZE, o.maximum),
-        minimum: o.minimum,
-        connecting: or_default(Pool::DEFAULT_MAX_CONNECTING, o.connecting),
-        idle: o.idle,
-    }
-}
-
-fn both(a: bool, b: bool) -> bool
-    ensures { λ r. ⌜ r ≡ a && b ⌝ }
-{
-    if a {
-        return b;
-    }
-    false
-}
-
-fn in_range(o: Options) -> bool
-    ensures { λ r. ⌜ r ≡ inRange o ⌝ }
-{
-    let a = o.maximum;
-    let b = o.minimum;
-    let c = o.connecting;
-    both(both(both(both(1 <= a, a <= 64), b <= a), 1 <= c), c <= 64)
-}
-
 fn fresh(o: Options) -> Pool
     ensures { λ r. ⌜ r ≡ freshPool o ⌝ }
 {
-    let h = Head {
-        options: o,
-        mode: Mode {
-            state: PoolState::New,
-            generation: 0,
-        },
-        next_connection_id: 1,
-        clock: 0,
-        last_request: 0,
-        serial: 0,
-        total_connection_count: 0,
-        pending_connection_count: 0,
-        available_count: 0,
-        waiting_count: 0,
-    };
+    let h = making::fresh_head(o);
     let vacant = slot_of(0, 0, 0, 0);
     let slots: [Slot; 64] = [vacant; 64];
     Pool {
@@ -309,15 +254,11 @@ fn minus(a: usize, b: usize) -> usize
 }
 
 impl Pool {
-    pub const DEFAULT_MAX_POOL_SIZE: u32 = 10;
-
-    pub const DEFAULT_MAX_CONNECTING: u32 = 2;
-
     pub fn new(options: Options) -> Made
         ensures { λ r. ⌜ r ≡ making options ⌝ }
     {
-        let o = with_defaults(options);
-        if in_range(o) {
+        let o = making::with_defaults(options);
+        if making::in_range(o) {
             let p = fresh(o);
             return Made {
                 outcome: Outcome::Accepted(0),

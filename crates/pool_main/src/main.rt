@@ -3,7 +3,6 @@ ghost use mathlib.Core.Path.{_≡_};
 ghost use Rattle.pool.specs.Entry.{entered, entry};
 use definition::ConnectionState;
 use definition::Options;
-use definition::Refusal;
 use libc::STDOUT_FILENO;
 use pool::Pool;
 use pool::Slot;
@@ -48,23 +47,6 @@ fn frame(kind: u8, flags: u8, id: u64, time: u64, second: u64) -> [u8; 24] {
     b
 }
 
-fn refusal_no(r: Refusal) -> u8 {
-    match r {
-        Refusal::OutputShort => 1,
-        Refusal::Malformed => 2,
-        Refusal::ClockBack => 3,
-        Refusal::AfterClose => 4,
-        Refusal::NumbersSpent => 5,
-        Refusal::OldRequest => 6,
-        Refusal::QueueFull => 7,
-        Refusal::WrongState => 8,
-        Refusal::WrongTime => 9,
-        Refusal::OptionsOutOfRange => 10,
-        Refusal::NotWaiting => 11,
-        Refusal::AlreadyPinned => 12,
-    }
-}
-
 fn number(x: u64) {
     let d = [
         48 + byte(x / 1000 % 10) % 10,
@@ -95,7 +77,7 @@ fn show(o: Outcome, out: &[u8]) {
     match o {
         Outcome::Refused(r) => {
             say(b"refused ");
-            number(refusal_no(r) as u64);
+            number(text::refusal_number(r) as u64);
         }
         Outcome::Accepted(n) => {
             records(out, n as usize);

@@ -32,29 +32,6 @@ use Rattle.replay.specs.Few.{FewIn, call-few}
 use Rattle.replay.specs.OnSlots.{Play, refusedLine, options, made, ready, badly, answered, lineIn, lastIn, lineSlots, lastSlots, onSlots}
 use Rattle.replay.specs.Code.{playOf, Able, Lined, Opens}
 
--- ── Options in range ───────────────────────────────────────────────────────────────────────────────────────────────────────
-
-module _ (o : Options) where
-  pub range-most : o .maximum < 1 → false ≡ inRange o
-  unfolding inRange
-  range-most h = rw (lt-leb 1 (o .maximum) h)
-
-  pub range-many : 1 ≤ o .maximum → 64 < o .maximum → false ≡ inRange o
-  unfolding inRange
-  range-many g h = rw (le-leb 1 (o .maximum) g, lt-leb (o .maximum) 64 h)
-
-  pub range-fewest : 1 ≤ o .maximum → o .maximum ≤ 64 → o .maximum < o .minimum → false ≡ inRange o
-  unfolding inRange
-  range-fewest f g h = rw (le-leb 1 (o .maximum) f, le-leb (o .maximum) 64 g, lt-leb (o .minimum) (o .maximum) h)
-
-  pub range-none : 1 ≤ o .maximum → o .maximum ≤ 64 → o .minimum ≤ o .maximum → o .connecting < 1 → false ≡ inRange o
-  unfolding inRange
-  range-none f g h k = rw (le-leb 1 (o .maximum) f, le-leb (o .maximum) 64 g, le-leb (o .minimum) (o .maximum) h, lt-leb 1 (o .connecting) k)
-
-  pub range-last : 1 ≤ o .maximum → o .maximum ≤ 64 → o .minimum ≤ o .maximum → 1 ≤ o .connecting → (o .connecting ≤? 64) ≡ inRange o
-  unfolding inRange
-  range-last f g h k = rw (le-leb 1 (o .maximum) f, le-leb (o .maximum) 64 g, le-leb (o .minimum) (o .maximum) h, le-leb 1 (o .connecting) k)
-
 -- ── One record, or none ────────────────────────────────────────────────────────────────────────────────────────────────────
 
 pub lined-quiet : (s : Play) (b : List ℕ) → Able (s .phase) (s .pool) → Lined (quiet s) b b s 0

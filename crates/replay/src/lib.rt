@@ -4,10 +4,8 @@ ghost use mathlib.Core.List.{_++_};
 ghost use Prim.Native.Nat.{_+_, _-_, _%_, _≤_, _<_, min};
 ghost use lib.ListN.{length, take, drop, replicate};
 ghost use lib.Seq.{paste};
-ghost use Rattle.definition.specs.Pool.{orDefault, withDefaults, inRange};
-ghost use Rattle.definition.specs.Records.{fields};
-ghost use Rattle.definition.specs.Refusals.{refusalNo, enoughRoom};
-ghost use Rattle.definition.specs.Bytes.{recordBytes, lineOf, frameOfLine, optionsOfLine};
+ghost use Rattle.definition.specs.Refusals.{enoughRoom};
+ghost use Rattle.definition.specs.Bytes.{frameOfLine, optionsOfLine};
 ghost use Rattle.slots.specs.View.{given, before, after};
 ghost use Rattle.slots.specs.Call.{call};
 ghost use Rattle.refinement.specs.Stands.{Formed};
@@ -18,10 +16,8 @@ ghost use Rattle.replay.specs.OnSlots.{answered, lineSlots, onSlots};
 ghost use Rattle.replay.specs.Days.{dayIn, Logged};
 ghost use Rattle.replay.specs.Code.{playOf, viewOf, heldOf, Able, Opens, Lined, Holds, Kept, Pieced, Read};
 use definition::Options;
-use definition::PoolState;
 use definition::Refusal;
 use slots::Head;
-use slots::Mode;
 use slots::Outcome;
 use text::Given;
 
@@ -47,107 +43,11 @@ pub struct Taken {
     pub written: usize,
 }
 
-fn refusal_number(r: Refusal) -> u8
-    ensures { λ n. ⌜ n ≡ refusalNo r ⌝ }
-{
-    match r {
-        Refusal::OutputShort => 1,
-        Refusal::Malformed => 2,
-        Refusal::ClockBack => 3,
-        Refusal::AfterClose => 4,
-        Refusal::NumbersSpent => 5,
-        Refusal::OldRequest => 6,
-        Refusal::QueueFull => 7,
-        Refusal::WrongState => 8,
-        Refusal::WrongTime => 9,
-        Refusal::OptionsOutOfRange => 10,
-        Refusal::NotWaiting => 11,
-        Refusal::AlreadyPinned => 12,
-    }
-}
-
-fn refusal_record(number: u8, line: u32) -> [u8; 16]
-    ensures { λ r. ⌜ r ≡ recordBytes 0 (fields 32 number line 0) ⌝ }
-{
-    let a = (line / 16777216 % 256) as u8;
-    let b = (line / 65536 % 256) as u8;
-    let c = (line / 256 % 256) as u8;
-    let d = (line % 256) as u8;
-    [32, number, 0, 0, 0, 0, 0, 0, a, b, c, d, 0, 0, 0, 0]
-}
-
-// The log's line for a refused one.
-fn put_refused(o: &mut [u8], r: Refusal, line: u32)
-    requires { ⌜ 33 ≤ length (now o) ⌝ }
-    ensures { λ _. ⌜ now (o .exit) ≡ lineOf (recordBytes 0 (fields 32 (refusalNo r) line 0)) ++ drop 33 (now (o .entry)) ⌝ }
-{
-    let b = refusal_record(refusal_number(r), line);
-    text::print_record(&b, o);
-}
-
 // The number of the line after `used` frames, the options line being 1.
 fn line_number(used: u64) -> u32
     ensures { λ r. ⌜ r ≡ (used + 2) % 4294967296 ⌝ }
 {
     ((used % 4294967296 + 2) % 4294967296) as u32
-}
-
-fn or_default(default: u32, n: u32) -> u32
-    ensures { λ r. ⌜ r ≡ orDefault default n ⌝ }
-{
-    if n == 0 { default } else { n }
-}
-
-fn with_defaults(o: Options) -> Options
-    ensures { λ r. ⌜ r ≡ withDefaults o ⌝ }
-{
-    let maximum = or_default(10, o.maximum);
-    let connecting = or_default(2, o.connecting);
-    Options {
-        maximum: maximum,
-        minimum: o.minimum,
-        connecting: connecting,
-        idle: o.idle,
-    }
-}
-
-fn in_range(o: Options) -> bool
-    ensures { λ r. ⌜ r ≡ inRange o ⌝ }
-{
-    if o.maximum < 1 {
-        return false;
-    }
-    if 64 < o.maximum {
-        return false;
-    }
-    if o.maximum < o.minimum {
-        return false;
-    }
-    if o.connecting < 1 {
-        return false;
-    }
-    o.connecting <= 64
-}
-
-// Of a pool in which nothing has happened, all of whose cells are 0.
-fn fresh_head(o: Options) -> Head
-    ensures { λ r. ⌜ r ≡ freshHead o ⌝ }
-{
-    Head {
-        options: o,
-        mode: Mode {
-            state: PoolState::New,
-            generation: 0,
-        },
-        next_connection_id: 1,
-        clock: 0,
-        last_request: 0,
-        serial: 0,
-        total_connection_count: 0,
-        pending_connection_count: 0,
-        available_count: 0,
-        waiting_count: 0,
-    }
 }
 
 // Bad options end the run.
@@ -181,13 +81,13 @@ fn take_first(
 {
     match text::line_options(l) {
         Given::Options(p) => {
-            let q = with_defaults(p);
-            if in_range(q) {
+            let q = making::with_defaults(p);
+            if making::in_range(q) {
                 *cells = [0u32; 128];
                 *times = [0u64; 64];
                 *seats = [0u8; 128];
                 *waiters = [0u64; 256];
-                let h = fresh_head(q);
+                let h = making::fresh_head(q);
                 Taken {
                     pace: Pace {
                         phase: Phase::Going,
@@ -198,12 +98,12 @@ fn take_first(
                     written: 0,
                 }
             } else {
-                put_refused(o, Refusal::OptionsOutOfRange, 1);
+                text::print_refusal(Refusal::OptionsOutOfRange, 1, o);
                 ended(pace, head)
             }
         }
         Given::Malformed => {
-            put_refused(o, Refusal::Malformed, 1);
+            text::print_refusal(Refusal::Malformed, 1, o);
             ended(pace, head)
         }
     }
@@ -246,7 +146,7 @@ fn take_frame(
     let answer = a.outcome;
     match answer {
         Outcome::Refused(r) => {
-            put_refused(o, r, line_number(pace.used));
+            text::print_refusal(r, line_number(pace.used), o);
             counted(pace, h, 33)
         }
         Outcome::Accepted(n) => {
@@ -532,7 +432,7 @@ pub fn begin(budget: u64) -> Run
 pub fn no_head() -> Head
     ensures { λ r. ⌜ r ≡ freshHead (record { maximum = 0; minimum = 0; connecting = 0; idle = 0 }) ⌝ }
 {
-    fresh_head(Options {
+    making::fresh_head(Options {
         maximum: 0,
         minimum: 0,
         connecting: 0,
@@ -561,7 +461,7 @@ pub fn finish(
         let phase = pace.phase;
         match phase {
             Phase::First => {
-                put_refused(o, Refusal::Malformed, 1);
+                text::print_refusal(Refusal::Malformed, 1, o);
                 ended(pace, head)
             }
             Phase::Going => Taken {

@@ -4,25 +4,15 @@ ghost use mathlib.Core.Bool.{_&&_, not};
 ghost use Prim.Native.Nat.{_≤_};
 ghost use lib.ListN.{drop};
 ghost use Rattle.definition.specs.Words.{_=?_, _<?_};
-ghost use Rattle.definition.specs.Pool.{inRange};
 ghost use Rattle.slots.specs.View.{Whole, given, before};
 ghost use Rattle.refinement.specs.Kept.{isPending};
 ghost use Rattle.refinement.specs.Rules.{isShelved};
 ghost use Rattle.rules.specs.Tests.{bit, among, blankPast, isTaken, slotFits, waiterFits, idsBelow, idsDistinct, slotsFit, countsRight, orderRight, blankFrom, queueRises};
 ghost use Rattle.rules.specs.Exact.{Exactly};
-use definition::Options;
+use making::both;
 use slots::Head;
 
 // ── words ──
-
-fn both(a: bool, b: bool) -> bool
-    ensures { λ r. ⌜ r ≡ a && b ⌝ }
-{
-    if a {
-        return b;
-    }
-    false
-}
 
 fn one_if(b: bool) -> u32
     ensures { λ r. ⌜ r ≡ bit b ⌝ }
@@ -96,15 +86,6 @@ fn waiter_fits(before: u64, id: u64, last: u64) -> bool
 }
 
 // ── the rules ──
-
-fn options_fit(o: Options) -> bool
-    ensures { λ r. ⌜ r ≡ inRange o ⌝ }
-{
-    let a = o.maximum;
-    let b = o.minimum;
-    let c = o.connecting;
-    both(both(both(both(1 <= a, a <= 64), b <= a), 1 <= c), c <= 64)
-}
 
 fn ids_below(cells: &[u32; 128], next: u32) -> bool
     ensures { λ r. ⌜ r ≡ idsBelow (now (cells .entry)) next ⌝ }
@@ -284,7 +265,7 @@ pub fn keeps_rules(
     let next = head.next_connection_id;
     let n = head.available_count;
     let w = head.waiting_count;
-    let options = both(options_fit(o), next <= 4294967233);
+    let options = both(making::in_range(o), next <= 4294967233);
     let below = ids_below(cells, next);
     let distinct = ids_distinct(cells);
     let fit = slots_fit(cells, times, seats);

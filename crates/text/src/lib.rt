@@ -3,13 +3,16 @@ ghost use mathlib.Core.Path.{_≡_};
 ghost use mathlib.Core.List.{_++_};
 ghost use Prim.Native.Nat.{_+_, _*_, _≤_, _<_};
 ghost use lib.ListN.{length, take, drop};
-ghost use Rattle.definition.specs.Bytes.{at4, at8, plain, bare, checkInFrame, clearFrame, frameOfFields, frameOf, optionsOf, digitOf, hexOf, lineOf, unhex, bytesOf, frameOfLine, optionsOfLine};
+ghost use Rattle.definition.specs.Records.{fields};
+ghost use Rattle.definition.specs.Refusals.{refusalNo};
+ghost use Rattle.definition.specs.Bytes.{at4, at8, plain, bare, checkInFrame, clearFrame, frameOfFields, frameOf, optionsOf, digitOf, hexOf, recordBytes, lineOf, unhex, bytesOf, frameOfLine, optionsOfLine};
 ghost use Rattle.text.specs.Given.{optionsIn};
 ghost use Rattle.text.specs.Decode.{number, pairsOf, Numbered, bytesIn};
 ghost use Rattle.text.specs.Printed.{printed};
 use definition::Event;
 use definition::Frame;
 use definition::Options;
+use definition::Refusal;
 
 // ── Numbers ──
 
@@ -317,4 +320,44 @@ pub fn print_records(s: &[u8], n: usize, o: &mut [u8])
         print_record(&s[from..to], &mut o[at..]);
         i += 1;
     }
+}
+
+// ── A refusal ──
+
+pub fn refusal_number(r: Refusal) -> u8
+    ensures { λ n. ⌜ n ≡ refusalNo r ⌝ }
+{
+    match r {
+        Refusal::OutputShort => 1,
+        Refusal::Malformed => 2,
+        Refusal::ClockBack => 3,
+        Refusal::AfterClose => 4,
+        Refusal::NumbersSpent => 5,
+        Refusal::OldRequest => 6,
+        Refusal::QueueFull => 7,
+        Refusal::WrongState => 8,
+        Refusal::WrongTime => 9,
+        Refusal::OptionsOutOfRange => 10,
+        Refusal::NotWaiting => 11,
+        Refusal::AlreadyPinned => 12,
+    }
+}
+
+fn refusal_record(number: u8, line: u32) -> [u8; 16]
+    ensures { λ r. ⌜ r ≡ recordBytes 0 (fields 32 number line 0) ⌝ }
+{
+    let a = (line / 16777216 % 256) as u8;
+    let b = (line / 65536 % 256) as u8;
+    let c = (line / 256 % 256) as u8;
+    let d = (line % 256) as u8;
+    [32, number, 0, 0, 0, 0, 0, 0, a, b, c, d, 0, 0, 0, 0]
+}
+
+// The log's line for a refused one, at the front of o.
+pub fn print_refusal(r: Refusal, line: u32, o: &mut [u8])
+    requires { ⌜ 33 ≤ length (now o) ⌝ }
+    ensures { λ _. ⌜ now (o .exit) ≡ lineOf (recordBytes 0 (fields 32 (refusalNo r) line 0)) ++ drop 33 (now (o .entry)) ⌝ }
+{
+    let b = refusal_record(refusal_number(r), line);
+    print_record(&b, o);
 }

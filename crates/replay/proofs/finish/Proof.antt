@@ -15,14 +15,14 @@ use Rattle.replay.proofs.finish.Tie as tie
 use Rattle.replay.proofs.finish.Reads as reads
 use Rattle.replay.proofs.finish.Lts as lts
 use Rattle.replay.proofs.ended.Reads as ended-reads
-use Rattle.replay.proofs.put_refused.Reads as put-refused-reads
+use Rattle.text.proofs.print_refusal.Reads as print-refusal-reads
 use Rattle.replay.proofs.take_line.Reads as take-line-reads
 
 enum-told : tie.Need-enum-told
 enum-told c = search needs
 
-put-refused-requires : tie.Need-put-refused-requires
-put-refused-requires c κs = search needs
+print-refusal-requires : tie.Need-print-refusal-requires
+print-refusal-requires c κs = search needs
 
 ended-requires : tie.Need-ended-requires
 ended-requires c κs = search needs
@@ -49,9 +49,9 @@ returns : tie.Need-returns
 returns c =
     let a = c .before .before .before .before .before .before .before .before .before .before .before .before .args in
     let r = a .run in
-    subst (λ (t : Taken). Lined (F.finish onSlots (playOf (r .pace) (poolOf (a .head) (now (a .cells)) (now (a .times)) (now (a .seats)) (now (a .waiters))) (now (a .scratch))) (take (r .count) (r .held))) (now (a .o)) (c .before .before .before .put-refused .last .0) (playOf (t .pace) (poolOf (t .head) (now (a .cells)) (now (a .times)) (now (a .seats)) (now (a .waiters))) (now (a .scratch))) (t .written))
+    subst (λ (t : Taken). Lined (F.finish onSlots (playOf (r .pace) (poolOf (a .head) (now (a .cells)) (now (a .times)) (now (a .seats)) (now (a .waiters))) (now (a .scratch))) (take (r .count) (r .held))) (now (a .o)) (c .before .before .before .print-refusal .last .1 .1 .0) (playOf (t .pace) (poolOf (t .head) (now (a .cells)) (now (a .times)) (now (a .seats)) (now (a .waiters))) (now (a .scratch))) (t .written))
     (sym (c .ended .ensures))
-    (end-first (r .pace) (poolOf (a .head) (now (a .cells)) (now (a .times)) (now (a .seats)) (now (a .waiters))) (now (a .scratch)) (now (a .o)) (take (r .count) (r .held)) _ (ap (λ (n : ℕ). take n (r .held)) (c .before .before .before .before .before .before .before .if1 .taken)) (c .before .before .before .before .before .enum-told .given .1) (c .before .before .before .put-refused .ensures))
+    (end-first (r .pace) (poolOf (a .head) (now (a .cells)) (now (a .times)) (now (a .seats)) (now (a .waiters))) (now (a .scratch)) (now (a .o)) (take (r .count) (r .held)) _ (ap (λ (n : ℕ). take n (r .held)) (c .before .before .before .before .before .before .before .if1 .taken)) (c .before .before .before .before .before .enum-told .given .1) (c .before .before .before .print-refusal .ensures))
 
 returns-2 : tie.Need-returns-2
 returns-2 c =
@@ -82,7 +82,7 @@ finish-spec =
     tie.close
     (tie.spec
     enum-told
-    put-refused-requires
+    print-refusal-requires
     ended-requires
     enum-told-2
     enum-told-3

@@ -16,10 +16,10 @@ use Rattle.replay.proofs.take_first.Tie as tie
 use Rattle.replay.proofs.take_first.Reads as reads
 use Rattle.replay.proofs.take_first.Lts as lts
 use Rattle.replay.proofs.ended.Reads as ended-reads
-use Rattle.replay.proofs.fresh_head.Reads as fresh-head-reads
-use Rattle.replay.proofs.in_range.Reads as in-range-reads
-use Rattle.replay.proofs.put_refused.Reads as put-refused-reads
-use Rattle.replay.proofs.with_defaults.Reads as with-defaults-reads
+use Rattle.making.proofs.fresh_head.Reads as fresh-head-reads
+use Rattle.making.proofs.in_range.Reads as in-range-reads
+use Rattle.text.proofs.print_refusal.Reads as print-refusal-reads
+use Rattle.making.proofs.with_defaults.Reads as with-defaults-reads
 use Rattle.text.proofs.line_options.Reads as line-options-reads
 
 line-options-requires : tie.Need-line-options-requires
@@ -37,8 +37,8 @@ in-range-requires c κs = search needs
 fresh-head-requires : tie.Need-fresh-head-requires
 fresh-head-requires c κs = search needs
 
-put-refused-requires : tie.Need-put-refused-requires
-put-refused-requires c κs = search needs
+print-refusal-requires : tie.Need-print-refusal-requires
+print-refusal-requires c κs = search needs
 
 ended-requires : tie.Need-ended-requires
 ended-requires c κs = search needs
@@ -46,8 +46,8 @@ ended-requires c κs = search needs
 enum-told : tie.Need-enum-told
 enum-told c = search needs
 
-put-refused-requires-2 : tie.Need-put-refused-requires-2
-put-refused-requires-2 c κs = search needs
+print-refusal-requires-2 : tie.Need-print-refusal-requires-2
+print-refusal-requires-2 c κs = search needs
 
 ended-requires-2 : tie.Need-ended-requires-2
 ended-requires-2 c κs = search needs
@@ -67,9 +67,9 @@ returns-2 : tie.Need-returns-2
 returns-2 c =
     let a = c .before .before .before .before .before .before .before .before .before .before .before .before .before .before .args in
     let d = c .before .before .before .before .before .before .before .with-defaults .ensures in
-    subst (λ (t : Taken). Opens (a .pace) (poolOf (a .head) (now (a .cells)) (now (a .times)) (now (a .seats)) (now (a .waiters))) (optionsOfLine (now (a .l))) (now (a .o)) (c .before .before .before .put-refused .last .0) (t .pace) (poolOf (t .head) (now (a .cells)) (now (a .times)) (now (a .seats)) (now (a .waiters))) (t .written))
+    subst (λ (t : Taken). Opens (a .pace) (poolOf (a .head) (now (a .cells)) (now (a .times)) (now (a .seats)) (now (a .waiters))) (optionsOfLine (now (a .l))) (now (a .o)) (c .before .before .before .print-refusal .last .1 .1 .0) (t .pace) (poolOf (t .head) (now (a .cells)) (now (a .times)) (now (a .seats)) (now (a .waiters))) (t .written))
     (sym (c .ended .ensures))
-    (opens-refused (a .pace) (poolOf (a .head) (now (a .cells)) (now (a .times)) (now (a .seats)) (now (a .waiters))) (optionsOfLine (now (a .l))) (now (a .o)) _ (c .before .before .before .before .before .before .before .before .before .p .given .0 .0) (sym (c .before .before .before .before .before .before .before .before .before .before .before .line-options .ensures) ∙ ap optionsIn (c .before .before .before .before .before .before .before .before .before .p .given .1)) (sym (c .before .before .before .before .before .if1 .left) ∙ c .before .before .before .before .before .before .in-range .ensures ∙ ap inRange d) (c .before .before .before .put-refused .ensures))
+    (opens-refused (a .pace) (poolOf (a .head) (now (a .cells)) (now (a .times)) (now (a .seats)) (now (a .waiters))) (optionsOfLine (now (a .l))) (now (a .o)) _ (c .before .before .before .before .before .before .before .before .before .p .given .0 .0) (sym (c .before .before .before .before .before .before .before .before .before .before .before .line-options .ensures) ∙ ap optionsIn (c .before .before .before .before .before .before .before .before .before .p .given .1)) (sym (c .before .before .before .before .before .if1 .left) ∙ c .before .before .before .before .before .before .in-range .ensures ∙ ap inRange d) (c .before .before .before .print-refusal .ensures))
 
 same-length-2 : tie.Need-same-length-2
 same-length-2 c = search needs
@@ -77,9 +77,9 @@ same-length-2 c = search needs
 returns-3 : tie.Need-returns-3
 returns-3 c =
     let a = c .before .before .before .before .before .before .before .before .before .before .args in
-    subst (λ (t : Taken). Opens (a .pace) (poolOf (a .head) (now (a .cells)) (now (a .times)) (now (a .seats)) (now (a .waiters))) (optionsOfLine (now (a .l))) (now (a .o)) (c .before .before .before .put-refused2 .last .0) (t .pace) (poolOf (t .head) (now (a .cells)) (now (a .times)) (now (a .seats)) (now (a .waiters))) (t .written))
+    subst (λ (t : Taken). Opens (a .pace) (poolOf (a .head) (now (a .cells)) (now (a .times)) (now (a .seats)) (now (a .waiters))) (optionsOfLine (now (a .l))) (now (a .o)) (c .before .before .before .print-refusal2 .last .1 .1 .0) (t .pace) (poolOf (t .head) (now (a .cells)) (now (a .times)) (now (a .seats)) (now (a .waiters))) (t .written))
     (sym (c .ended2 .ensures))
-    (opens-malformed (a .pace) (poolOf (a .head) (now (a .cells)) (now (a .times)) (now (a .seats)) (now (a .waiters))) (optionsOfLine (now (a .l))) (now (a .o)) _ (sym (c .before .before .before .before .before .before .before .line-options .ensures) ∙ ap optionsIn (c .before .before .before .before .before .enum-told .given .1)) (c .before .before .before .put-refused2 .ensures))
+    (opens-malformed (a .pace) (poolOf (a .head) (now (a .cells)) (now (a .times)) (now (a .seats)) (now (a .waiters))) (optionsOfLine (now (a .l))) (now (a .o)) _ (sym (c .before .before .before .before .before .before .before .line-options .ensures) ∙ ap optionsIn (c .before .before .before .before .before .enum-told .given .1)) (c .before .before .before .print-refusal2 .ensures))
 
 pub take-first-spec : {M : Type 1} → statement M
 take-first-spec =
@@ -90,10 +90,10 @@ take-first-spec =
     with-defaults-requires
     in-range-requires
     fresh-head-requires
-    put-refused-requires
+    print-refusal-requires
     ended-requires
     enum-told
-    put-refused-requires-2
+    print-refusal-requires-2
     ended-requires-2
     returns
     same-length

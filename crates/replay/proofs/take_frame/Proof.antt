@@ -19,7 +19,7 @@ use Rattle.replay.proofs.take_frame.Lts as lts
 use Rattle.event.proofs.call.Reads as call-reads
 use Rattle.replay.proofs.counted.Reads as counted-reads
 use Rattle.replay.proofs.line_number.Reads as line-number-reads
-use Rattle.replay.proofs.put_refused.Reads as put-refused-reads
+use Rattle.text.proofs.print_refusal.Reads as print-refusal-reads
 use Rattle.text.proofs.line_frame.Reads as line-frame-reads
 use Rattle.text.proofs.print_records.Reads as print-records-reads
 
@@ -35,8 +35,8 @@ enum-known-answer c = search needs
 line-number-requires : tie.Need-line-number-requires
 line-number-requires c κs = search needs
 
-put-refused-requires : tie.Need-put-refused-requires
-put-refused-requires c κs = search needs
+print-refusal-requires : tie.Need-print-refusal-requires
+print-refusal-requires c κs = search needs
 
 counted-requires : tie.Need-counted-requires
 counted-requires c κs = search needs
@@ -70,10 +70,10 @@ returns c =
     let a = c .before .before .before .before .before .before .before .before .before .before .before .before .before .before .before .before .before .before .before .before .before .before .args in
     let k = c .before .before .before .before .before .before .before .before .before .before .before .before .call in
     let e = k .ensures ∙ ap (call (poolOf (a .head) (now (a .cells)) (now (a .times)) (now (a .seats)) (now (a .waiters))) (now (a .scratch))) (c .before .before .before .before .before .before .before .before .before .before .before .before .before .before .before .before .before .before .line-frame .ensures) in
-    subst (λ (t : Taken). Lined (answered (playOf (a .pace) (poolOf (a .head) (now (a .cells)) (now (a .times)) (now (a .seats)) (now (a .waiters))) (now (a .scratch))) (call (poolOf (a .head) (now (a .cells)) (now (a .times)) (now (a .seats)) (now (a .waiters))) (now (a .scratch)) (frameOfLine (now (a .l))))) (now (a .o)) (c .before .before .before .put-refused .last .0) (playOf (t .pace) (poolOf (t .head) (k .last .1 .0) (k .last .1 .1 .0) (k .last .1 .1 .1 .0) (k .last .1 .1 .1 .1 .0)) (k .last .1 .1 .1 .1 .1 .0)) (t .written))
+    subst (λ (t : Taken). Lined (answered (playOf (a .pace) (poolOf (a .head) (now (a .cells)) (now (a .times)) (now (a .seats)) (now (a .waiters))) (now (a .scratch))) (call (poolOf (a .head) (now (a .cells)) (now (a .times)) (now (a .seats)) (now (a .waiters))) (now (a .scratch)) (frameOfLine (now (a .l))))) (now (a .o)) (c .before .before .before .print-refusal .last .1 .1 .0) (playOf (t .pace) (poolOf (t .head) (k .last .1 .0) (k .last .1 .1 .0) (k .last .1 .1 .1 .0) (k .last .1 .1 .1 .1 .0)) (k .last .1 .1 .1 .1 .1 .0)) (t .written))
     (sym (c .counted .ensures))
     (frame-refused (poolOf (a .head) (now (a .cells)) (now (a .times)) (now (a .seats)) (now (a .waiters))) _ (now (a .scratch)) _ (frameOfLine (now (a .l))) _ e (c .before .before .before .before .before .before .before .before .before .before .before .before .before .before .before .before .before .before .before .before .before .before .pre .1) (a .pace) (now (a .o)) _ (c .before .before .before .before .before .before .before .answer .given .0 .0) (c .before .before .before .before .before .before .before .answer .given .1)
-    (c .before .before .before .put-refused .ensures ∙ ap (λ (n : ℕ). refusedBytes (c .before .before .before .before .before .before .before .answer .given .0 .0) n ++ drop 33 (now (a .o))) (c .before .before .before .before .line-number .ensures)))
+    (c .before .before .before .print-refusal .ensures ∙ ap (λ (n : ℕ). refusedBytes (c .before .before .before .before .before .before .before .answer .given .0 .0) n ++ drop 33 (now (a .o))) (c .before .before .before .before .before .line-number .ensures)))
 
 same-length-3 : tie.Need-same-length-3
 same-length-3 c = search needs
@@ -98,7 +98,7 @@ take-frame-spec =
     call-requires
     enum-known-answer
     line-number-requires
-    put-refused-requires
+    print-refusal-requires
     counted-requires
     enum-known-answer-2
     cast-k

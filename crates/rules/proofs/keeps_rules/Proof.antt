@@ -8,8 +8,8 @@ use borrow.Author.Needs.{needs}
 use Rattle.rules.proofs.keeps_rules.Statement.{statement}
 use Rattle.rules.proofs.keeps_rules.Tie as tie
 
-options-fit-requires : tie.Need-options-fit-requires
-options-fit-requires c κs = search needs
+in-range-requires : tie.Need-in-range-requires
+in-range-requires c κs = search needs
 
 both-requires : tie.Need-both-requires
 both-requires c κs = search needs
@@ -68,7 +68,7 @@ returns c =
     let a = c .before .before .before .before .before .before .before .before .before .before .before .before .before .before .before .before .before .before .before .args in
     exactly (a .head) (now (a .cells)) (now (a .times)) (now (a .seats)) (now (a .waiters)) (c .both9 .result) (c .before .before .before .before .before .before .before .before .before .before .before .before .before .before .before .before .before .before .before .pre) (omega (arith, c .before .before .before .before .before .before .before .before .before .before .before .before .before .before .before .before .before .before .before .good))
     (and-is (c .both9 .ensures)
-    (and-is (c .before .before .before .before .before .both4 .ensures) (and-is (c .before .before .before .before .before .before .before .before .before .before .before .before .before .before .before .before .both .ensures) (c .before .before .before .before .before .before .before .before .before .before .before .before .before .before .before .before .before .options-fit .ensures) refl)
+    (and-is (c .before .before .before .before .before .both4 .ensures) (and-is (c .before .before .before .before .before .before .before .before .before .before .before .before .before .before .before .before .both .ensures) (c .before .before .before .before .before .before .before .before .before .before .before .before .before .before .before .before .before .in-range .ensures) refl)
     (and-is (c .before .before .before .before .before .before .both3 .ensures) (c .before .before .before .before .before .before .before .before .before .before .before .before .before .before .before .ids-below .ensures) (and-is (c .before .before .before .before .before .before .before .both2 .ensures) (c .before .before .before .before .before .before .before .before .before .before .before .before .before .before .ids-distinct .ensures) (c .before .before .before .before .before .before .before .before .before .before .before .before .before .slots-fit .ensures))))
     (and-is (c .before .both8 .ensures)
     (and-is (c .before .before .before .both6 .ensures) (c .before .before .before .before .before .before .before .before .before .before .before .before .counts-right .ensures) (and-is (c .before .before .before .before .both5 .ensures) (c .before .before .before .before .before .before .before .before .before .before .before .order-right .ensures) (c .before .before .before .before .before .before .before .before .before .before .order-blank-from .ensures)))
@@ -78,7 +78,7 @@ pub keeps-rules-spec : {M : Type 1} → statement M
 keeps-rules-spec =
     tie.close
     (tie.spec
-    options-fit-requires
+    in-range-requires
     both-requires
     ids-below-requires
     ids-distinct-requires

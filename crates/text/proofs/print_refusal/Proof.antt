@@ -6,13 +6,13 @@ use denote.Ref.{now}
 use Rattle.definition.specs.Records.{fields}
 use Rattle.definition.specs.Bytes.{recordBytes, lineOf}
 use borrow.Author.Needs.{needs}
-use Rattle.replay.proofs.put_refused.Statement.{statement}
-use Rattle.replay.proofs.put_refused.Tie as tie
-use Rattle.replay.proofs.put_refused.Reads as reads
-use Rattle.replay.proofs.put_refused.Lts as lts
-use Rattle.replay.proofs.refusal_number.Reads as refusal-number-reads
-use Rattle.replay.proofs.refusal_record.Reads as refusal-record-reads
+use Rattle.text.proofs.print_refusal.Statement.{statement}
+use Rattle.text.proofs.print_refusal.Tie as tie
+use Rattle.text.proofs.print_refusal.Reads as reads
+use Rattle.text.proofs.print_refusal.Lts as lts
+use Rattle.text.proofs.refusal_number.Reads as refusal-number-reads
+use Rattle.text.proofs.refusal_record.Reads as refusal-record-reads
 use Rattle.text.proofs.print_record.Reads as print-record-reads
 
 refusal-number-requires : tie.Need-refusal-number-requires
 refusal-number-requires c κs = search needs
@@ -34,8 +34,8 @@ returns c =
     let a = c .before .before .before .before .before .before .before .before .args in
     c .before .before .print-record .ensures ∙ ap (λ (x : List ℕ). lineOf x ++ drop 33 (now (a .o))) (c .before .before .before .before .before .refusal-record .ensures ∙ ap (λ (n : ℕ). recordBytes 0 (fields 32 n (a .line) 0)) (c .before .before .before .before .before .before .refusal-number .ensures))
 
-pub put-refused-spec : {M : Type 1} → statement M
-put-refused-spec =
+pub print-refusal-spec : {M : Type 1} → statement M
+print-refusal-spec =
     tie.close
     (tie.spec
     refusal-number-requires

@@ -1,10 +1,10 @@
 use mathlib.Core.Path.{refl}
 use Rattle.definition.specs.Bytes.{recordBytes}
 use borrow.Author.Needs.{needs}
-use Rattle.replay.proofs.refusal_record.Statement.{statement}
-use Rattle.replay.proofs.refusal_record.Tie as tie
-use Rattle.replay.proofs.refusal_record.Reads as reads
-use Rattle.replay.proofs.refusal_record.Lts as lts
+use Rattle.text.proofs.refusal_record.Statement.{statement}
+use Rattle.text.proofs.refusal_record.Tie as tie
+use Rattle.text.proofs.refusal_record.Reads as reads
+use Rattle.text.proofs.refusal_record.Lts as lts
 
 cast-a : tie.Need-cast-a
 cast-a c = search needs

@@ -1,0 +1,135 @@
+// The engine without text, for the benchmark: frames on standard input, 24 bytes each, the first of them the options. Tells
+// the frames refused and the records written.
+ghost use Rattle.slots.specs.View.{given, before, after};
+ghost use Rattle.refinement.specs.Stands.{Formed};
+use definition::Options;
+use libc::STDIN_FILENO;
+use libc::STDOUT_FILENO;
+use slots::Head;
+use slots::Outcome;
+use text::Given;
+
+struct Tally {
+    refused: u64,
+    records: u64,
+}
+
+struct Ran {
+    head: Head,
+    tally: Tally,
+}
+
+fn counted(tally: Tally, outcome: Outcome) -> Tally {
+    let mut t = tally;
+    match outcome {
+        Outcome::Refused(_) => {
+            t.refused = std::num::wrapping_add_u64(t.refused, 1);
+        }
+        Outcome::Accepted(n) => {
+            t.records = std::num::wrapping_add_u64(t.records, n as u64);
+        }
+    }
+    t
+}
+
+// Frame after frame. The pool's structure is not tested: it is formed, and stays so.
+fn run(
+    head: Head,
+    cells: &mut [u32; 128],
+    times: &mut [u64; 64],
+    seats: &mut [u8; 128],
+    waiters: &mut [u64; 256],
+    frames: &[u8],
+    tally: Tally,
+    out: &mut [u8],
+) -> Ran
+    requires { ⌜ Formed (given head cells times seats waiters) ⌝ }
+    ensures { λ r. ⌜ Formed (after (r .head) cells times seats waiters) ⌝ }
+{
+    let mut h = head;
+    let mut t = tally;
+    let mut at: usize = 0;
+    while 24 <= frames.len() - at {
+        let f = text::frame_of(&frames[at..at + 24]);
+        let a = event::call(h, cells, times, seats, waiters, out, f);
+        h = a.head;
+        let o = a.outcome;
+        t = counted(t, o);
+        at += 24;
+    }
+    Ran { head: h, tally: t }
+}
+
+// To the end of the input. A proved loop has to end, so the turns are counted down from a number that no run uses up.
+fn all(
+    head: Head,
+    cells: &mut [u32; 128],
+    times: &mut [u64; 64],
+    seats: &mut [u8; 128],
+    waiters: &mut [u64; 256],
+    buf: &mut [u8],
+    out: &mut [u8],
+) -> Tally
+    requires { ⌜ Formed (given head cells times seats waiters) ⌝ }
+{
+    let mut h = head;
+    let mut t = Tally {
+        refused: 0,
+        records: 0,
+    };
+    let mut turns = u64::MAX;
+    while turns > 0 {
+        let n = io::read_full(STDIN_FILENO, buf);
+        if n == 0 {
+            return t;
+        }
+        let r = run(h, cells, times, seats, waiters, &buf[..n], t, out);
+        h = r.head;
+        t = r.tally;
+        turns -= 1;
+    }
+    t
+}
+
+fn tell(t: Tally) {
+    io::print_decimal(STDOUT_FILENO, t.refused);
+    io::write_all(STDOUT_FILENO, b" refused, ");
+    io::print_decimal(STDOUT_FILENO, t.records);
+    io::write_all(STDOUT_FILENO, b" records\n");
+}
+
+fn play(options: Options) {
+    let o = making::with_defaults(options);
+    if making::in_range(o) {
+        let mut cells = [0u32; 128];
+        let mut times = [0u64; 64];
+        let mut seats = [0u8; 128];
+        let mut waiters = [0u64; 256];
+        let mut buf = [0u8; 61440];
+        let mut out = [0u8; 8192];
+        let head = making::fresh_head(o);
+        let t = all(
+            head,
+            &mut cells,
+            &mut times,
+            &mut seats,
+            &mut waiters,
+            &mut buf,
+            &mut out,
+        );
+        tell(t);
+    } else {
+        io::write_all(STDOUT_FILENO, b"options out of range\n");
+    }
+}
+
+fn main() {
+    let mut first = [0u8; 24];
+    let n = io::read_full(STDIN_FILENO, &mut first);
+    match text::options_of(&first[..n]) {
+        Given::Options(o) => play(o),
+        Given::Malformed => {
+            io::write_all(STDOUT_FILENO, b"no options\n");
+        }
+    }
+}

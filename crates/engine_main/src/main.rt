@@ -99,15 +99,15 @@ fn tell(t: Tally) {
 }
 
 fn play(options: Options) {
-    let o = making::with_defaults(options);
-    if making::in_range(o) {
+    let o = pool::with_defaults(options);
+    if pool::in_range(o) {
         let mut cells = [0u32; 128];
         let mut times = [0u64; 64];
         let mut seats = [0u8; 128];
         let mut waiters = [0u64; 256];
         let mut buf = [0u8; 61440];
         let mut out = [0u8; 8192];
-        let head = making::fresh_head(o);
+        let head = pool::fresh_head(o);
         let t = all(
             head,
             &mut cells,

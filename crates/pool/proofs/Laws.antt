@@ -13,7 +13,7 @@ use Rattle.text.specs.Given.{optionsIn}
 use Rattle.text.specs.declared.Given.{Given}
 use Rattle.text.specs.declared.Given.the-variants as given
 use Rattle.pool.specs.View.{stateOf}
-use Rattle.pool.specs.Entry.{freshPool, notMade, making, makingFrom}
+use Rattle.pool.specs.Making.{freshPool, notMade, making, makingFrom}
 use Rattle.pool.specs.declared.Pool.{Pool}
 use Rattle.pool.specs.declared.Made.{Made}
 

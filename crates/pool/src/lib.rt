@@ -1,17 +1,21 @@
-// The entry points: a pool value, bytes and an output, for all inputs, with no condition on any.
+// The pool as a value: its type, its making, its counts, and the columns that the engine works on.
 ghost use mathlib.Core.Path.{_≡_};
+ghost use mathlib.Core.Bool.{_&&_};
 ghost use Prim.Native.Nat.{_-_};
-ghost use Rattle.definition.specs.Pool.{stateNo};
+ghost use Rattle.definition.specs.Pool.{stateNo, orDefault, withDefaults, inRange};
 ghost use Rattle.definition.specs.Bytes.{optionsOf};
+ghost use Rattle.refinement.specs.Formed.{freshHead};
 ghost use Rattle.pool.specs.View.{stateOf, slotOf};
-ghost use Rattle.pool.specs.Entry.{entered, entry, freshPool, notMade, making, makingFrom, countsOf};
 ghost use Rattle.pool.specs.Laws.{Apart, Again};
+ghost use Rattle.pool.specs.Making.{freshPool, notMade, making, makingFrom, countsOf};
 use definition::ConnectionState;
 use definition::Options;
 use definition::PinnedState;
+use definition::PoolState;
 use definition::Purpose;
 use definition::Refusal;
 use slots::Head;
+use slots::Mode;
 use slots::Outcome;
 use text::Given;
 
@@ -29,11 +33,6 @@ pub struct Pool {
     pub slots: [Slot; 64],
     pub available: [u8; 64],
     pub waiters: [u64; 256],
-}
-
-pub struct Stepped {
-    pub pool: Pool,
-    pub outcome: Outcome,
 }
 
 pub struct Made {
@@ -150,74 +149,71 @@ pub fn rows(cells: [u32; 128], times: [u64; 64], seats: [u8; 128]) -> Table
     }
 }
 
-// ── a call ──
-
-// Any pool value, any frame, any output. A refusal gives the pool back as it came, and leaves the output.
-pub fn step(pool: Pool, frame: &[u8], out: &mut [u8]) -> Stepped
-    ensures { λ r. ⌜ entered (r .pool) (now (out .exit)) (r .outcome) ≡ entry pool (now (frame .entry)) (now (out .entry)) ⌝ }
-{
-    if out.len() < 8192 {
-        return Stepped {
-            pool: pool,
-            outcome: Outcome::Refused(Refusal::OutputShort),
-        };
-    }
-    let head = pool.head;
-    let slots = pool.slots;
-    let available = pool.available;
-    let mut waiters = pool.waiters;
-    let c = columns(slots, available);
-    let mut cells = c.cells;
-    let mut times = c.times;
-    let mut seats = c.seats;
-    if !rules::keeps_rules(head, &cells, &times, &seats, &waiters) {
-        return Stepped {
-            pool: pool,
-            outcome: Outcome::Refused(Refusal::Malformed),
-        };
-    }
-    let f = text::frame_of(frame);
-    let a = event::call(
-        head,
-        &mut cells,
-        &mut times,
-        &mut seats,
-        &mut waiters,
-        out,
-        f,
-    );
-    let h = a.head;
-    let o = a.outcome;
-    let t = rows(cells, times, seats);
-    let s = t.slots;
-    let v = t.available;
-    let next = Pool {
-        head: h,
-        slots: s,
-        available: v,
-        waiters: waiters,
-    };
-    Stepped {
-        pool: next,
-        outcome: o,
-    }
-}
-
-// The same on a pool that the caller keeps.
-pub fn event(pool: &mut Pool, frame: &[u8], out: &mut [u8]) -> Outcome
-    ensures { λ r. ⌜ entered (now (pool .exit)) (now (out .exit)) r ≡ entry (now (pool .entry)) (now (frame .entry)) (now (out .entry)) ⌝ }
-{
-    let s = step(*pool, frame, out);
-    *pool = s.pool;
-    s.outcome
-}
-
 // ── making a pool ──
+
+fn or_default(default: u32, n: u32) -> u32
+    ensures { λ r. ⌜ r ≡ orDefault default n ⌝ }
+{
+    if n == 0 {
+        return default;
+    }
+    n
+}
+
+pub fn with_defaults(o: Options) -> Options
+    ensures { λ r. ⌜ r ≡ withDefaults o ⌝ }
+{
+    Options {
+        maximum: or_default(Pool::DEFAULT_MAX_POOL_SIZE, o.maximum),
+        minimum: o.minimum,
+        connecting: or_default(Pool::DEFAULT_MAX_CONNECTING, o.connecting),
+        idle: o.idle,
+    }
+}
+
+pub fn both(a: bool, b: bool) -> bool
+    ensures { λ r. ⌜ r ≡ a && b ⌝ }
+{
+    if a {
+        return b;
+    }
+    false
+}
+
+pub fn in_range(o: Options) -> bool
+    ensures { λ r. ⌜ r ≡ inRange o ⌝ }
+{
+    let a = o.maximum;
+    let b = o.minimum;
+    let c = o.connecting;
+    both(both(both(both(1 <= a, a <= 64), b <= a), 1 <= c), c <= 64)
+}
+
+// Of a pool in which nothing has happened, all of whose cells are 0.
+pub fn fresh_head(o: Options) -> Head
+    ensures { λ r. ⌜ r ≡ freshHead o ⌝ }
+{
+    Head {
+        options: o,
+        mode: Mode {
+            state: PoolState::New,
+            generation: 0,
+        },
+        next_connection_id: 1,
+        clock: 0,
+        last_request: 0,
+        serial: 0,
+        total_connection_count: 0,
+        pending_connection_count: 0,
+        available_count: 0,
+        waiting_count: 0,
+    }
+}
 
 fn fresh(o: Options) -> Pool
     ensures { λ r. ⌜ r ≡ freshPool o ⌝ }
 {
-    let h = making::fresh_head(o);
+    let h = fresh_head(o);
     let vacant = slot_of(0, 0, 0, 0);
     let slots: [Slot; 64] = [vacant; 64];
     Pool {
@@ -254,11 +250,15 @@ fn minus(a: usize, b: usize) -> usize
 }
 
 impl Pool {
+    pub const DEFAULT_MAX_POOL_SIZE: u32 = 10;
+
+    pub const DEFAULT_MAX_CONNECTING: u32 = 2;
+
     pub fn new(options: Options) -> Made
         ensures { λ r. ⌜ r ≡ making options ⌝ }
     {
-        let o = making::with_defaults(options);
-        if making::in_range(o) {
+        let o = with_defaults(options);
+        if in_range(o) {
             let p = fresh(o);
             return Made {
                 outcome: Outcome::Accepted(0),

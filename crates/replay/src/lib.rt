@@ -81,13 +81,13 @@ fn take_first(
 {
     match text::line_options(l) {
         Given::Options(p) => {
-            let q = making::with_defaults(p);
-            if making::in_range(q) {
+            let q = pool::with_defaults(p);
+            if pool::in_range(q) {
                 *cells = [0u32; 128];
                 *times = [0u64; 64];
                 *seats = [0u8; 128];
                 *waiters = [0u64; 256];
-                let h = making::fresh_head(q);
+                let h = pool::fresh_head(q);
                 Taken {
                     pace: Pace {
                         phase: Phase::Going,
@@ -432,7 +432,7 @@ pub fn begin(budget: u64) -> Run
 pub fn no_head() -> Head
     ensures { λ r. ⌜ r ≡ freshHead (record { maximum = 0; minimum = 0; connecting = 0; idle = 0 }) ⌝ }
 {
-    making::fresh_head(Options {
+    pool::fresh_head(Options {
         maximum: 0,
         minimum: 0,
         connecting: 0,

@@ -9,7 +9,7 @@ ghost use Rattle.refinement.specs.Kept.{isPending};
 ghost use Rattle.refinement.specs.Rules.{isShelved};
 ghost use Rattle.rules.specs.Tests.{bit, among, blankPast, isTaken, slotFits, waiterFits, idsBelow, idsDistinct, slotsFit, countsRight, orderRight, blankFrom, queueRises};
 ghost use Rattle.rules.specs.Exact.{Exactly};
-use making::both;
+use pool::both;
 use slots::Head;
 
 // ── words ──
@@ -265,7 +265,7 @@ pub fn keeps_rules(
     let next = head.next_connection_id;
     let n = head.available_count;
     let w = head.waiting_count;
-    let options = both(making::in_range(o), next <= 4294967233);
+    let options = both(pool::in_range(o), next <= 4294967233);
     let below = ids_below(cells, next);
     let distinct = ids_distinct(cells);
     let fit = slots_fit(cells, times, seats);

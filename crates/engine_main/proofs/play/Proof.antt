@@ -14,9 +14,9 @@ use Rattle.engine_main.proofs.play.Lts as lts
 use Rattle.engine_main.proofs.all.Reads as all-reads
 use Rattle.engine_main.proofs.tell.Reads as tell-reads
 use Rattle.io.proofs.write_all.Reads as write-all-reads
-use Rattle.making.proofs.fresh_head.Reads as fresh-head-reads
-use Rattle.making.proofs.in_range.Reads as in-range-reads
-use Rattle.making.proofs.with_defaults.Reads as with-defaults-reads
+use Rattle.pool.proofs.fresh_head.Reads as fresh-head-reads
+use Rattle.pool.proofs.in_range.Reads as in-range-reads
+use Rattle.pool.proofs.with_defaults.Reads as with-defaults-reads
 
 with-defaults-requires : tie.Need-with-defaults-requires
 with-defaults-requires c κs = search needs

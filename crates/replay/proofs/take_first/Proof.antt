@@ -16,10 +16,10 @@ use Rattle.replay.proofs.take_first.Tie as tie
 use Rattle.replay.proofs.take_first.Reads as reads
 use Rattle.replay.proofs.take_first.Lts as lts
 use Rattle.replay.proofs.ended.Reads as ended-reads
-use Rattle.making.proofs.fresh_head.Reads as fresh-head-reads
-use Rattle.making.proofs.in_range.Reads as in-range-reads
+use Rattle.pool.proofs.fresh_head.Reads as fresh-head-reads
+use Rattle.pool.proofs.in_range.Reads as in-range-reads
 use Rattle.text.proofs.print_refusal.Reads as print-refusal-reads
-use Rattle.making.proofs.with_defaults.Reads as with-defaults-reads
+use Rattle.pool.proofs.with_defaults.Reads as with-defaults-reads
 use Rattle.text.proofs.line_options.Reads as line-options-reads
 
 line-options-requires : tie.Need-line-options-requires

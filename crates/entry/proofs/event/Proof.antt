@@ -1,4 +1,4 @@
--- `pool::event` meets its contract: a walk of its MIR, by hand. The pool's borrow is opened, the pool is copied out of it and passed to `step` by value with the frame and the output, the new pool is stored in its place, and the borrow is closed at it.
+-- `entry::event` meets its contract: a walk of its MIR, by hand. The pool's borrow is opened, the pool is copied out of it and passed to `step` by value with the frame and the output, the new pool is stored in its place, and the borrow is closed at it.
 -- All that the proof knows of `step` is that it meets its contract. No field of a pool and no case of an answer is named: a pool's machine value is `val` of it, and its facts are one relation (`Is T.the-row`), which the module that `rattle check` makes of the struct turns into what each step asks.
 -- The frame is Copy: what it owns is had twice, and one copy is kept for the exit. The output is given up for good: `step` is called at its own lifetime, share and ghost name, and what `step` says of the last list is what `event` says of it (`gave-slice`).
 -- Assumes nothing.
@@ -42,24 +42,24 @@ use denote.Triple.Table.{entered, cited}
 use denote.Triple.Clauses.{ensured, lasts}
 use denote.Triple.Walked.{says, Stays, stay-ref, stay-none-slice, gave-slice, walkOf, AllGo, goes-ref, goes-none-slice, goes-gave-slice, Walks, ends-at, walked, walk-meets}
 use denote.Exit.{yes}
-use Rattle.pool.specs.Entry.{entered as left, entry}
+use Rattle.entry.specs.Entry.{entered as left, entry}
 use Rattle.pool.specs.declared.Pool.{Pool}
 use Rattle.slots.specs.declared.Outcome.{Outcome}
-use Rattle.pool.specs.declared.Stepped.{Stepped}
+use Rattle.entry.specs.declared.Stepped.{Stepped}
 use Rattle.pool.proofs.Pool as T
 use Rattle.pool.proofs.Pool.Laws as T′
 use Rattle.slots.proofs.Outcome as N
 use Rattle.slots.proofs.Outcome.Laws as N′
-use Rattle.pool.proofs.Stepped as S
-use Rattle.pool.proofs.Stepped.Laws as S′
-use Rattle.pool.proofs.step as step
-use Rattle.pool.proofs.step.Symbol as step-def
-use Rattle.pool.proofs.step.Symbol.{name as #step}
-use Rattle.pool.proofs.step.Met as step-thm
-use Rattle.pool.proofs.event.Key.{name as #event}
-use Rattle.pool.proofs.event as event
-use Rattle.pool.proofs.event.Statement as stated
-use Rattle.pool.proofs.event.Code as code
+use Rattle.entry.proofs.Stepped as S
+use Rattle.entry.proofs.Stepped.Laws as S′
+use Rattle.entry.proofs.step as step
+use Rattle.entry.proofs.step.Symbol as step-def
+use Rattle.entry.proofs.step.Symbol.{name as #step}
+use Rattle.entry.proofs.step.Met as step-thm
+use Rattle.entry.proofs.event.Key.{name as #event}
+use Rattle.entry.proofs.event as event
+use Rattle.entry.proofs.event.Statement as stated
+use Rattle.entry.proofs.event.Code as code
 
 abbrev stayed : Stays (event.ended .signature .params) (event.ended .kept)
 stayed = (stay-ref (0 ∷ []) tt (plain (λ _. T.the-row)), (stay-none-slice (1 ∷ []) tt (plain (λ _. u8)) yes, (gave-slice (2 ∷ []) tt (plain (λ _. u8)), tt)))
@@ -226,4 +226,4 @@ event-spec 𝓤 H 𝓜 𝓖 𝓡 =
     entered 𝓤 H (tripleOf 𝓤 H (𝓖 .A) event.signature (event.spec 𝓤 H (𝓖 .A) (𝓜 .mem) (𝓡 .run)))
     (tables 𝓤 H 𝓜 𝓡 code.env .C) (tables 𝓤 H 𝓜 𝓡 code.env .Λ) #event code.function (code.unfolded 𝓤 H 𝓜 𝓡)
     (event-meets 𝓤 H (𝓖 .A) (givenOf 𝓤 H 𝓜 𝓖) (𝓜 .mem) (𝓡 .run) (tablesOf 𝓤 H 𝓜 (tables 𝓤 H 𝓜 𝓡 code.env))
-    (cited 𝓤 H (Step 𝓤 H (𝓖 .A) (𝓜 .mem) (𝓡 .run)) 𝓜 𝓡 code.env #step step-def.routine code.calls-pool·step (step-thm.met 𝓤 H 𝓜 𝓖 𝓡)))
+    (cited 𝓤 H (Step 𝓤 H (𝓖 .A) (𝓜 .mem) (𝓡 .run)) 𝓜 𝓡 code.env #step step-def.routine code.calls-entry·step (step-thm.met 𝓤 H 𝓜 𝓖 𝓡)))

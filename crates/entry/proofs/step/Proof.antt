@@ -3,15 +3,15 @@ use mathlib.Core.Path.{sym}
 use lib.ListN.{length-map}
 use denote.Ref.{now}
 use Rattle.rules.specs.Exact.{accepted-formed}
-use Rattle.pool.specs.Tested.{Typed, entry-short, apart-whole, step-broken, step-done}
+use Rattle.entry.specs.Tested.{Typed, entry-short, apart-whole, step-broken, step-done}
 use borrow.Author.Needs.{needs}
-use Rattle.pool.proofs.step.Statement.{statement}
-use Rattle.pool.proofs.step.Tie as tie
-use Rattle.pool.proofs.step.Reads as reads
-use Rattle.pool.proofs.step.Lts as lts
+use Rattle.entry.proofs.step.Statement.{statement}
+use Rattle.entry.proofs.step.Tie as tie
+use Rattle.entry.proofs.step.Reads as reads
+use Rattle.entry.proofs.step.Lts as lts
 use Rattle.event.proofs.call.Reads as call-reads
 use Rattle.pool.proofs.columns.Reads as columns-reads
 use Rattle.pool.proofs.rows.Reads as rows-reads
 use Rattle.rules.proofs.keeps_rules.Reads as keeps-rules-reads
 use Rattle.text.proofs.frame_of.Reads as frame-of-reads
 

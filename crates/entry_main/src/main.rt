@@ -1,21 +1,21 @@
 // Days and edges of a pool that is lent by `&mut`, run and compared: the numbers are those of the paper.
 ghost use mathlib.Core.Path.{_≡_};
-ghost use Rattle.pool.specs.Entry.{entered, entry};
+ghost use Rattle.entry.specs.Entry.{entered, entry};
 use definition::ConnectionState;
 use definition::Options;
+use entry::Stepped;
 use libc::STDOUT_FILENO;
 use pool::Pool;
 use pool::Slot;
-use pool::Stepped;
 use slots::Mode;
 use slots::Outcome;
 
-// A local pool, lent to `pool::event`.
+// A local pool, lent to `entry::event`.
 fn once(start: Pool, frame: &[u8], out: &mut [u8]) -> Stepped
     ensures { λ r. ⌜ entered (r .pool) (now (out .exit)) (r .outcome) ≡ entry start (now (frame .entry)) (now (out .entry)) ⌝ }
 {
     let mut p = start;
-    let a = pool::event(&mut p, frame, out);
+    let a = entry::event(&mut p, frame, out);
     Stepped {
         pool: p,
         outcome: a,

@@ -1,8 +1,8 @@
 use Prim.Native.Nat.{_≤_, _-_}
 use native.Mathlib.Omega.{arith}
 use borrow.Author.Needs.{needs}
-use Rattle.pool_main.proofs.wait.Statement.{statement}
-use Rattle.pool_main.proofs.wait.Tie as tie
+use Rattle.entry_main.proofs.wait.Statement.{statement}
+use Rattle.entry_main.proofs.wait.Tie as tie
 
 abbrev Inv-loop : tie.InvT-loop
 Inv-loop q₀ i₀ q i = i ≤ 257

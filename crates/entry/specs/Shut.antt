@@ -27,11 +27,12 @@ use Rattle.slots.specs.declared.Outcome.{Outcome}
 use Rattle.slots.specs.declared.Outcome.the-variants.{Refused, Accepted}
 use Rattle.refinement.specs.Stands.{Stands, Formed}
 use Rattle.refinement.specs.Formed.{fresh-stands, fresh-formed}
 use Rattle.pool.specs.View.{viewOf}
-use Rattle.pool.specs.Entry.{Entered, entry, freshPool}
-use Rattle.pool.specs.Tested.{Typed}
-use Rattle.pool.specs.Meaning.{Done, entry-meant, entry-formed, formed-typed}
+use Rattle.pool.specs.Making.{freshPool}
+use Rattle.entry.specs.Entry.{Entered, entry}
+use Rattle.entry.specs.Tested.{Typed}
+use Rattle.entry.specs.Meaning.{Done, entry-meant, entry-formed, formed-typed}
 use Rattle.pool.specs.declared.Pool.{Pool}
 
 -- ── Two calls of a made pool ───────────────────────────────────────────────────────────────────────────────────────────
 

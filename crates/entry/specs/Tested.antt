@@ -16,13 +16,13 @@ use Rattle.slots.specs.declared.Head.{Head}
 use Rattle.slots.specs.declared.Outcome.{Outcome}
 use Rattle.slots.specs.declared.Outcome.the-variants.{Refused}
 use Rattle.rules.specs.Exact.{Exactly, exactly}
 use Rattle.pool.specs.View.{idOf, seen, viewOf, cellsOf, timesOf, seatsOf, poolFrom}
-use Rattle.pool.specs.Entry.{entered, keeps, back, entry}
+use Rattle.entry.specs.Entry.{entered, keeps, back, entry}
 use Rattle.pool.specs.Laws.{view-columns, Apart, Again, slotsOf}
 use Rattle.pool.specs.declared.Slot.{Slot}
 use Rattle.pool.specs.declared.Pool.{Pool}
 use Rattle.pool.specs.declared.Parts.{Parts}
 use Rattle.pool.specs.declared.Table.{Table}
 
 -- what the types of the code say of every pool value
 pub record Typed (p : Pool) : Type 0 where

@@ -33,13 +33,14 @@ use Rattle.refinement.specs.Call.{call-refines, refines-stands}
 use Rattle.refinement.specs.Formed.{freshSlots, fresh-stands, fresh-formed, call-formed, Lent, asCall, ran, wrote, writes, run-refines}
 use Rattle.event.specs.Laws.{call-short}
 use Rattle.rules.specs.Tests.{keepsRules}
 use Rattle.pool.specs.View.{idOf, viewOf, poolFrom}
-use Rattle.pool.specs.Entry.{Entered, entered, recordsIn, keeps, back, entry, freshPool, noPool, notMade, making, makingFrom, countsOf}
+use Rattle.pool.specs.Making.{freshPool, noPool, notMade, making, makingFrom, countsOf}
+use Rattle.entry.specs.Entry.{Entered, entered, recordsIn, keeps, back, entry}
 use Rattle.pool.specs.Laws.{back-view, view-back}
-use Rattle.pool.specs.Tested.{Typed, keeps-exact, entry-short, entry-kept}
+use Rattle.entry.specs.Tested.{Typed, keeps-exact, entry-short, entry-kept}
 use Rattle.pool.specs.declared.Pool.{Pool}
 use Rattle.pool.specs.declared.Made.{Made}
 use Rattle.pool.specs.declared.Counts.{Counts}
 
 -- ── A pool that breaks a rule ──────────────────────────────────────────────────────────────────────────────────────────
 

@@ -1,4 +1,4 @@
--- `pool_main::once` meets its contract: a walk of its MIR, by hand.
+-- `entry_main::once` meets its contract: a walk of its MIR, by hand.
 use mathlib.Core.Path.{_≡_, refl, ap}
 use Prim.Native.Nat.{ℕ}
 use mathlib.Core.List.{[], _∷_, List}
@@ -41,24 +41,24 @@ use denote.Triple.Table.{entered, cited}
 use denote.Triple.Clauses.{ensured, lasts}
 use denote.Triple.Walked.{says, Stays, stay-none, stay-none-slice, gave-slice, walkOf, AllGo, goes-none, goes-none-slice, goes-gave-slice, Walks, ends-at, walked, walk-meets}
 use denote.Exit.{yes}
-use Rattle.pool.specs.Entry.{entered as left, entry}
+use Rattle.entry.specs.Entry.{entered as left, entry}
 use Rattle.pool.specs.declared.Pool.{Pool}
 use Rattle.slots.specs.declared.Outcome.{Outcome}
-use Rattle.pool.specs.declared.Stepped.{Stepped}
+use Rattle.entry.specs.declared.Stepped.{Stepped}
 use Rattle.pool.proofs.Pool as T
 use Rattle.pool.proofs.Pool.Laws as T′
 use Rattle.slots.proofs.Outcome as N
 use Rattle.slots.proofs.Outcome.Laws as N′
-use Rattle.pool.proofs.Stepped as S
-use Rattle.pool.proofs.Stepped.Laws as S′
-use Rattle.pool.proofs.event as event
-use Rattle.pool.proofs.event.Symbol as event-def
-use Rattle.pool.proofs.event.Symbol.{name as #event}
-use Rattle.pool.proofs.event.Met as event-thm
-use Rattle.pool_main.proofs.once.Key.{name as #once}
-use Rattle.pool_main.proofs.once as once
-use Rattle.pool_main.proofs.once.Statement as stated
-use Rattle.pool_main.proofs.once.Code as code
+use Rattle.entry.proofs.Stepped as S
+use Rattle.entry.proofs.Stepped.Laws as S′
+use Rattle.entry.proofs.event as event
+use Rattle.entry.proofs.event.Symbol as event-def
+use Rattle.entry.proofs.event.Symbol.{name as #event}
+use Rattle.entry.proofs.event.Met as event-thm
+use Rattle.entry_main.proofs.once.Key.{name as #once}
+use Rattle.entry_main.proofs.once as once
+use Rattle.entry_main.proofs.once.Statement as stated
+use Rattle.entry_main.proofs.once.Code as code
 
 abbrev stayed : Stays (once.ended .signature .params) (once.ended .kept)
 stayed = (stay-none (λ _. T.the-row) yes, (stay-none-slice (0 ∷ []) tt (plain (λ _. u8)) yes, (gave-slice (1 ∷ []) tt (plain (λ _. u8)), tt)))
@@ -213,4 +213,4 @@ once-spec 𝓤 H 𝓜 𝓖 𝓡 =
     entered 𝓤 H (tripleOf 𝓤 H (𝓖 .A) once.signature (once.spec 𝓤 H (𝓖 .A) (𝓜 .mem) (𝓡 .run)))
     (tables 𝓤 H 𝓜 𝓡 code.env .C) (tables 𝓤 H 𝓜 𝓡 code.env .Λ) #once code.function (code.unfolded 𝓤 H 𝓜 𝓡)
     (once-meets 𝓤 H (𝓖 .A) (givenOf 𝓤 H 𝓜 𝓖) (𝓜 .mem) (𝓡 .run) (tablesOf 𝓤 H 𝓜 (tables 𝓤 H 𝓜 𝓡 code.env))
-    (cited 𝓤 H (Event 𝓤 H (𝓖 .A) (𝓜 .mem) (𝓡 .run)) 𝓜 𝓡 code.env #event event-def.routine code.calls-pool·event (event-thm.met 𝓤 H 𝓜 𝓖 𝓡)))
+    (cited 𝓤 H (Event 𝓤 H (𝓖 .A) (𝓜 .mem) (𝓡 .run)) 𝓜 𝓡 code.env #event event-def.routine code.calls-entry·event (event-thm.met 𝓤 H 𝓜 𝓖 𝓡)))

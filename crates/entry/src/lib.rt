@@ -1,0 +1,71 @@
+// The entry points: a pool value, bytes and an output, for all inputs, with no condition on any.
+ghost use mathlib.Core.Path.{_≡_};
+ghost use Rattle.entry.specs.Entry.{entered, entry};
+use definition::Refusal;
+use pool::Pool;
+use slots::Outcome;
+
+pub struct Stepped {
+    pub pool: Pool,
+    pub outcome: Outcome,
+}
+
+// Any pool value, any frame, any output. A refusal gives the pool back as it came, and leaves the output.
+pub fn step(pool: Pool, frame: &[u8], out: &mut [u8]) -> Stepped
+    ensures { λ r. ⌜ entered (r .pool) (now (out .exit)) (r .outcome) ≡ entry pool (now (frame .entry)) (now (out .entry)) ⌝ }
+{
+    if out.len() < 8192 {
+        return Stepped {
+            pool: pool,
+            outcome: Outcome::Refused(Refusal::OutputShort),
+        };
+    }
+    let head = pool.head;
+    let slots = pool.slots;
+    let available = pool.available;
+    let mut waiters = pool.waiters;
+    let c = pool::columns(slots, available);
+    let mut cells = c.cells;
+    let mut times = c.times;
+    let mut seats = c.seats;
+    if !rules::keeps_rules(head, &cells, &times, &seats, &waiters) {
+        return Stepped {
+            pool: pool,
+            outcome: Outcome::Refused(Refusal::Malformed),
+        };
+    }
+    let f = text::frame_of(frame);
+    let a = event::call(
+        head,
+        &mut cells,
+        &mut times,
+        &mut seats,
+        &mut waiters,
+        out,
+        f,
+    );
+    let h = a.head;
+    let o = a.outcome;
+    let t = pool::rows(cells, times, seats);
+    let s = t.slots;
+    let v = t.available;
+    let next = Pool {
+        head: h,
+        slots: s,
+        available: v,
+        waiters: waiters,
+    };
+    Stepped {
+        pool: next,
+        outcome: o,
+    }
+}
+
+// The same on a pool that the caller keeps.
+pub fn event(pool: &mut Pool, frame: &[u8], out: &mut [u8]) -> Outcome
+    ensures { λ r. ⌜ entered (now (pool .exit)) (now (out .exit)) r ≡ entry (now (pool .entry)) (now (frame .entry)) (now (out .entry)) ⌝ }
+{
+    let s = step(*pool, frame, out);
+    *pool = s.pool;
+    s.outcome
+}

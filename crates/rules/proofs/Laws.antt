@@ -12,7 +12,7 @@ use borrow.Author.Tests.{lt-ltb, le-ltb, le-leb, eq-eqb, ne-eqb}
 use Rattle.definition.specs.Words.{_=?_}
 use Rattle.refinement.specs.Table.{by-eq}
 use Rattle.refinement.specs.Rules.{isShelved}
-use Rattle.rules.specs.Tests.{every, tally, among, bit, newId, listedAt, orderRight}
+use Rattle.rules.specs.Tests.{every, tally, among, bit, blankPast, newId, listedAt, orderRight}
 
 -- ── every ──
 
@@ -32,6 +32,10 @@ and-false : (b : Bool) → (b && false) ≡ false
 and-false true = refl
 and-false false = refl
 
+and-true : (b : Bool) → b ≡ (b && true)
+and-true true = refl
+and-true false = refl
+
 -- one place that fails is enough
 pub every-fails : (n i : ℕ) (t : ℕ → Bool) → i < n → t i ≡ false → false ≡ every n t
 unfolding every
@@ -40,6 +44,27 @@ every-fails (suc n) i t h e =
     by-eq i n
     (λ q. rw (← q, e, and-false))
     (λ q. let k : i < n = omega arith in rw (← every-fails n i t k e))
+
+-- ── blank cells ──
+
+module _ (n : ℕ) (l : List ℕ) where
+  abbrev blankAt : ℕ → Bool
+  blankAt j = blankPast n j (getD l j 0)
+
+  -- what stands before the n-th may be anything
+  pub blank-before : (m : ℕ) → m ≤ n → true ≡ every m blankAt
+  unfolding every
+  blank-before zero h = refl
+  blank-before (suc m) h =
+      let k : m < n = omega arith in
+      rw (← blank-before m (omega arith), lt-ltb m n k)
+
+  module _ (i : ℕ) (h : n ≤ i) where
+    pub blank-lost : (getD l i 0 ≡ 0 → ⊥) → false ≡ every (i + 1) blankAt
+    blank-lost k = every-fails (i + 1) i blankAt (omega arith) (rw (le-ltb i n h, ne-eqb (getD l i 0) 0 k))
+
+    pub blank-kept : (ok : Bool) → ok ≡ every i blankAt → getD l i 0 ≡ 0 → ok ≡ every (i + 1) blankAt
+    blank-kept ok a e = every-more i blankAt ok true ok a (rw (le-ltb i n h, eq-eqb (getD l i 0) 0 e)) (and-true ok)
 
 -- ── tally ──
 

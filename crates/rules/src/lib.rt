@@ -238,13 +238,19 @@ fn queue_rises(waiters: &[u64; 256], n: usize, last: u32) -> bool
     ok
 }
 
+// With no return in the loop, so that several are looked at at once.
 fn queue_blank_from(waiters: &[u64; 256], n: usize) -> bool
     ensures { λ r. ⌜ r ≡ blankFrom 256 n (now (waiters .entry)) ⌝ }
 {
+    if 256 < n {
+        return true;
+    }
     let mut ok = true;
-    let mut i: usize = 0;
+    let mut i = n;
     while i < 256 {
-        ok = both(ok, blank_past(n, i, waiters[i]));
+        if waiters[i] != 0 {
+            ok = false;
+        }
         i += 1;
     }
     ok

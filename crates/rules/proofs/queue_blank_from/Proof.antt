@@ -1,33 +1,34 @@
-use mathlib.Core.Path.{_≡_}
+use mathlib.Core.Path.{_≡_, _∙_}
+use mathlib.Core.Logic.{⊎-elim}
 use Prim.Native.Nat.{_≤_, _-_}
 use native.Mathlib.Omega.{arith}
 use lib.ListN.{getD}
 use Rattle.rules.specs.Tests.{every, blankPast, blankFrom}
-use Rattle.rules.proofs.Laws.{every-more, every-none}
+use Rattle.rules.proofs.Laws.{blank-before, blank-lost, blank-kept}
 use borrow.Author.Needs.{needs}
 use Rattle.rules.proofs.queue_blank_from.Statement.{statement}
 use Rattle.rules.proofs.queue_blank_from.Tie as tie
+use Rattle.rules.proofs.queue_blank_from.Reads as reads
+use Rattle.rules.proofs.queue_blank_from.Lts as lts
 
 abbrev Inv-loop : tie.InvT-loop
-Inv-loop waiters n ok₀ i₀ ok i = (i ≤ 256) × (ok ≡ every i (λ j. blankPast n j (getD waiters j 0)))
+Inv-loop waiters n ok₀ i₀ ok i = (n ≤ i) × (i ≤ 256) × (ok ≡ every i (λ j. blankPast n j (getD waiters j 0)))
 
 abbrev μ-loop : tie.MeasureT-loop
 μ-loop waiters n ok₀ i₀ ok i = 256 - i
 
+returns : tie.Need-returns Inv-loop μ-loop
+unfolding blankFrom
+returns c = let a = c .before .args in blank-before (a .n) (a .waiters .now) 256 (omega (arith, c .if1 .taken))
+
 loop-holds : tie.Need-loop-holds Inv-loop μ-loop
-loop-holds c = (search needs, every-none _)
+loop-holds c = let a = c .before .args in (omega arith, omega arith, blank-before (a .n) (a .waiters .now) (a .n) (omega arith))
 
-mul-blank-past : tie.Need-mul-blank-past Inv-loop μ-loop
-mul-blank-past c = search needs
+mul-if2 : tie.Need-mul-if2 Inv-loop μ-loop
+mul-if2 c = search needs
 
-element-copy-out-blank-past : tie.Need-element-copy-out-blank-past Inv-loop μ-loop
-element-copy-out-blank-past c = search needs
-
-blank-past-requires : tie.Need-blank-past-requires Inv-loop μ-loop
-blank-past-requires c κs = search needs
-
-both-requires : tie.Need-both-requires Inv-loop μ-loop
-both-requires c κs = search needs
+element-copy-out-if2 : tie.Need-element-copy-out-if2 Inv-loop μ-loop
+element-copy-out-if2 c = search needs
 
 add-i : tie.Need-add-i Inv-loop μ-loop
 add-i c = search needs
@@ -36,11 +37,14 @@ loop-less : tie.Need-loop-less Inv-loop μ-loop
 loop-less c = search needs
 
 loop-again : tie.Need-loop-again Inv-loop μ-loop
-loop-again c = (search needs, every-more _ _ _ _ _ (c .before .before .before .before .loop .inv .1) (c .before .blank-past .ensures) (c .both .ensures))
+loop-again c =
+    let v = c .before .before .before .loop in
+    let a = c .before .before .before .before .before .args in
+    (omega arith, omega arith, ⊎-elim (λ w. w .1 ∙ blank-lost (a .n) (a .waiters .now) (v .i) (v .inv .0) (w .0 .taken)) (λ w. w .1 ∙ blank-kept (a .n) (a .waiters .now) (v .i) (v .inv .0) (v .ok) (v .inv .2) (w .0 .left)) (c .if2 .came))
 
-returns : tie.Need-returns Inv-loop μ-loop
+returns-2 : tie.Need-returns-2 Inv-loop μ-loop
 unfolding blankFrom
-returns c = let e : c .before .loop .i ≡ 256 = omega arith in rw e at (c .before .loop .inv .1)
+returns-2 c = let e : c .before .loop .i ≡ 256 = omega arith in rw e at (c .before .loop .inv .2)
 
 pub queue-blank-from-spec : {M : Type 1} → statement M
 queue-blank-from-spec =
@@ -48,12 +52,11 @@ queue-blank-from-spec =
     (tie.spec
     Inv-loop
     μ-loop
+    returns
     loop-holds
-    mul-blank-past
-    element-copy-out-blank-past
-    blank-past-requires
-    both-requires
+    mul-if2
+    element-copy-out-if2
     add-i
     loop-less
     loop-again
-    returns)
+    returns-2)

@@ -171,6 +171,7 @@ pub fn with_defaults(o: Options) -> Options
     }
 }
 
+// Both are known before: no branch in a loop.
 pub fn both(a: bool, b: bool) -> bool
     ensures { λ r. ⌜ r ≡ a && b ⌝ }
 {

@@ -1,0 +1,78 @@
+use mathlib.Core.Path.{_≡_, refl, _∙_}
+use lib.ListN.{length}
+use borrow.Author.Needs.{needs}
+use Rattle.engine_main.proofs.enter_all.Statement.{statement}
+use Rattle.engine_main.proofs.enter_all.Tie as tie
+use Rattle.engine_main.proofs.enter_all.Reads as reads
+use Rattle.engine_main.proofs.enter_all.Lts as lts
+use Rattle.engine_main.proofs.enter.Reads as enter-reads
+use Rattle.io.proofs.read_full.Reads as read-full-reads
+
+abbrev Inv-loop : tie.InvT-loop
+Inv-loop buf₀ out₀ p₀ t₀ turns₀ buf out p t turns = (length buf ≡ length buf₀) × (length out ≡ length out₀)
+
+abbrev μ-loop : tie.MeasureT-loop
+μ-loop buf₀ out₀ p₀ t₀ turns₀ buf out p t turns = turns
+
+loop-holds : tie.Need-loop-holds Inv-loop μ-loop
+loop-holds c = (refl, refl)
+
+read-full-requires : tie.Need-read-full-requires Inv-loop μ-loop
+read-full-requires c κs = search needs
+
+same-length : tie.Need-same-length Inv-loop μ-loop
+same-length c = search needs
+
+same-length-2 : tie.Need-same-length-2 Inv-loop μ-loop
+same-length-2 c = search needs
+
+returns : tie.Need-returns Inv-loop μ-loop
+returns c = search needs
+
+slice-reshare-prefix-enter : tie.Need-slice-reshare-prefix-enter Inv-loop μ-loop
+slice-reshare-prefix-enter c = search needs
+
+slice-aggregate-enter : tie.Need-slice-aggregate-enter Inv-loop μ-loop
+slice-aggregate-enter c = search needs
+
+enter-requires : tie.Need-enter-requires Inv-loop μ-loop
+enter-requires c κs = search needs
+
+sub-turns : tie.Need-sub-turns Inv-loop μ-loop
+sub-turns c = search needs
+
+loop-less : tie.Need-loop-less Inv-loop μ-loop
+loop-less c = search needs
+
+loop-again : tie.Need-loop-again Inv-loop μ-loop
+loop-again c = search needs
+
+same-length-3 : tie.Need-same-length-3 Inv-loop μ-loop
+same-length-3 c = search needs
+
+same-length-4 : tie.Need-same-length-4 Inv-loop μ-loop
+same-length-4 c = search needs
+
+returns-2 : tie.Need-returns-2 Inv-loop μ-loop
+returns-2 c = search needs
+
+pub enter-all-spec : {M : Type 1} → statement M
+enter-all-spec =
+    tie.close
+    (tie.spec
+    Inv-loop
+    μ-loop
+    loop-holds
+    read-full-requires
+    same-length
+    same-length-2
+    returns
+    slice-reshare-prefix-enter
+    slice-aggregate-enter
+    enter-requires
+    sub-turns
+    loop-less
+    loop-again
+    same-length-3
+    same-length-4
+    returns-2)

@@ -3,7 +3,7 @@
 ghost use mathlib.Core.Path.{_≡_};
 ghost use Prim.Native.Nat.{_+_, _*_, _≤_, _<_};
 ghost use lib.ListN.{length};
-ghost use Rattle.definition.specs.Pool.{isReady, isClosed};
+ghost use Rattle.definition.specs.Pool.{most, isReady, isClosed};
 ghost use Rattle.definition.specs.Records.{fieldsOf, told};
 ghost use Rattle.definition.specs.Bytes.{serialOf, recordBytes};
 ghost use Rattle.slots.specs.Laid.{laid};
@@ -13,7 +13,12 @@ ghost use Rattle.slots.specs.Codes.{reasonOf, replyOf, IsReply, perishedNo};
 ghost use Rattle.slots.specs.Needs.{CanCreate, CanClose, CanShelve, CanPrune};
 ghost use Rattle.slots.specs.Slots.{closeAt, shelve, turnAt, popFront, popBack, createPendingConnection};
 use definition::PoolState;
+use slots::Cells;
 use slots::Head;
+use slots::SLOTS;
+use slots::Seats;
+use slots::Times;
+use slots::Waiters;
 
 pub struct Core {
     pub head: Head,
@@ -89,10 +94,10 @@ pub fn reply(out: &mut [u8], n: u32, serial: u32, waiter: u64, kind: u8, other: 
 // The connection in slot i is closed, and the slot is vacant.
 pub fn close_connection(
     head: Head,
-    cells: &mut [u32; 128],
-    times: &mut [u64; 64],
-    seats: &mut [u8; 128],
-    waiters: &mut [u64; 256],
+    cells: &mut Cells,
+    times: &mut Times,
+    seats: &mut Seats,
+    waiters: &mut Waiters,
     out: &mut [u8],
     n: u32,
     i: usize,
@@ -103,7 +108,7 @@ pub fn close_connection(
 {
     table::emit(out, n, head.serial, 4, reason, long(cells[i]), 0);
     cells[i] = 0;
-    cells[64 + i] = 0;
+    cells[SLOTS + i] = 0;
     times[i] = 0;
     seats[i] = 0;
     let mut h = head;
@@ -117,10 +122,10 @@ pub fn close_connection(
 // Slot i to the back of the available list, available since the time given.
 pub fn shelve(
     head: Head,
-    cells: &mut [u32; 128],
-    times: &mut [u64; 64],
-    seats: &mut [u8; 128],
-    waiters: &mut [u64; 256],
+    cells: &mut Cells,
+    times: &mut Times,
+    seats: &mut Seats,
+    waiters: &mut Waiters,
     i: usize,
     since: u64,
 ) -> Head
@@ -128,7 +133,7 @@ pub fn shelve(
     ensures { λ r. ⌜ after r cells times seats waiters ≡ shelve i since (before head cells times seats waiters) .pool ⌝ }
 {
     let k = head.available_count;
-    seats[64 + k] = i as u8;
+    seats[SLOTS + k] = i as u8;
     times[i] = since;
     seats[i] = 1;
     let mut h = head;
@@ -139,14 +144,14 @@ pub fn shelve(
 // Slot i in another state, now.
 pub fn turn(
     head: Head,
-    cells: &mut [u32; 128],
-    times: &mut [u64; 64],
-    seats: &mut [u8; 128],
-    waiters: &mut [u64; 256],
+    cells: &mut Cells,
+    times: &mut Times,
+    seats: &mut Seats,
+    waiters: &mut Waiters,
     i: usize,
     state: u8,
 )
-    requires { ⌜ Whole (given head cells times seats waiters) × (i < 64) ⌝ }
+    requires { ⌜ Whole (given head cells times seats waiters) × (i < most) ⌝ }
     ensures { λ _. ⌜ after head cells times seats waiters ≡ turnAt state i (before head cells times seats waiters) .pool ⌝ }
 {
     times[i] = head.clock;
@@ -156,10 +161,10 @@ pub fn turn(
 // The front, or the back, leaves the available list.
 pub fn pop_front(
     head: Head,
-    cells: &mut [u32; 128],
-    times: &mut [u64; 64],
-    seats: &mut [u8; 128],
-    waiters: &mut [u64; 256],
+    cells: &mut Cells,
+    times: &mut Times,
+    seats: &mut Seats,
+    waiters: &mut Waiters,
 ) -> Head
     requires { ⌜ Whole (given head cells times seats waiters) × CanPrune (given head cells times seats waiters) × (0 < head .«available_count») ⌝ }
     ensures { λ r. ⌜ after r cells times seats waiters ≡ popFront (before head cells times seats waiters) .pool ⌝ }
@@ -173,16 +178,16 @@ pub fn pop_front(
 
 pub fn pop_back(
     head: Head,
-    cells: &mut [u32; 128],
-    times: &mut [u64; 64],
-    seats: &mut [u8; 128],
-    waiters: &mut [u64; 256],
+    cells: &mut Cells,
+    times: &mut Times,
+    seats: &mut Seats,
+    waiters: &mut Waiters,
 ) -> Head
     requires { ⌜ Whole (given head cells times seats waiters) × CanPrune (given head cells times seats waiters) × (0 < head .«available_count») ⌝ }
     ensures { λ r. ⌜ after r cells times seats waiters ≡ popBack (before head cells times seats waiters) .pool ⌝ }
 {
     let k = head.available_count - 1;
-    seats[64 + k] = 0;
+    seats[SLOTS + k] = 0;
     let mut h = head;
     h.available_count = k;
     h
@@ -191,10 +196,10 @@ pub fn pop_back(
 // A new connection in the first vacant slot, pending: state 5 for a request, 6 in background.
 pub fn create_pending_connection(
     head: Head,
-    cells: &mut [u32; 128],
-    times: &mut [u64; 64],
-    seats: &mut [u8; 128],
-    waiters: &mut [u64; 256],
+    cells: &mut Cells,
+    times: &mut Times,
+    seats: &mut Seats,
+    waiters: &mut Waiters,
     out: &mut [u8],
     n: u32,
     state: u8,
@@ -207,7 +212,7 @@ pub fn create_pending_connection(
     table::emit(out, n, head.serial, 1, 0, long(id), 0);
     let m = head.mode;
     cells[i] = id;
-    cells[64 + i] = m.generation;
+    cells[SLOTS + i] = m.generation;
     times[i] = head.clock;
     seats[i] = state;
     let mut h = head;

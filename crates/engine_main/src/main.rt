@@ -10,8 +10,14 @@ use definition::Options;
 use libc::STDIN_FILENO;
 use libc::STDOUT_FILENO;
 use pool::Pool;
+use slots::Cells;
 use slots::Head;
 use slots::Outcome;
+use slots::QUEUE;
+use slots::SLOTS;
+use slots::Seats;
+use slots::Times;
+use slots::Waiters;
 use text::Given;
 
 struct Tally {
@@ -40,10 +46,10 @@ fn counted(tally: Tally, outcome: Outcome) -> Tally {
 // Frame after frame. The pool's structure is not tested: it is formed, and stays so.
 fn run(
     head: Head,
-    cells: &mut [u32; 128],
-    times: &mut [u64; 64],
-    seats: &mut [u8; 128],
-    waiters: &mut [u64; 256],
+    cells: &mut Cells,
+    times: &mut Times,
+    seats: &mut Seats,
+    waiters: &mut Waiters,
     frames: &[u8],
     tally: Tally,
     out: &mut [u8],
@@ -68,10 +74,10 @@ fn run(
 // To the end of the input. A proved loop has to end, so the turns are counted down from a number that no run uses up.
 fn all(
     head: Head,
-    cells: &mut [u32; 128],
-    times: &mut [u64; 64],
-    seats: &mut [u8; 128],
-    waiters: &mut [u64; 256],
+    cells: &mut Cells,
+    times: &mut Times,
+    seats: &mut Seats,
+    waiters: &mut Waiters,
     buf: &mut [u8],
     out: &mut [u8],
 ) -> Tally
@@ -146,10 +152,10 @@ fn tell(t: Tally) {
 fn play(options: Options) {
     let o = pool::with_defaults(options);
     if pool::in_range(o) {
-        let mut cells = [0u32; 128];
-        let mut times = [0u64; 64];
-        let mut seats = [0u8; 128];
-        let mut waiters = [0u64; 256];
+        let mut cells: Cells = [0; 2 * SLOTS];
+        let mut times: Times = [0; SLOTS];
+        let mut seats: Seats = [0; 2 * SLOTS];
+        let mut waiters: Waiters = [0; QUEUE];
         let mut buf = [0u8; 61440];
         let mut out = [0u8; 8192];
         let head = pool::fresh_head(o);

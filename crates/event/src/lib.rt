@@ -16,9 +16,13 @@ use acts::Core;
 use definition::Event;
 use definition::Frame;
 use definition::Refusal;
+use slots::Cells;
 use slots::Head;
 use slots::Outcome;
+use slots::Seats;
+use slots::Times;
 use slots::Verdict;
+use slots::Waiters;
 
 pub struct Answer {
     pub head: Head,
@@ -44,10 +48,10 @@ fn is_serviced(kind: u8) -> bool
 // The event's own step, on the slot or the waiter that it names; the clock is the event's.
 pub fn own(
     head: Head,
-    cells: &mut [u32; 128],
-    times: &mut [u64; 64],
-    seats: &mut [u8; 128],
-    waiters: &mut [u64; 256],
+    cells: &mut Cells,
+    times: &mut Times,
+    seats: &mut Seats,
+    waiters: &mut Waiters,
     out: &mut [u8],
     e: Event,
     i: usize,
@@ -163,10 +167,10 @@ pub fn own(
 // An event that no test refuses: its own step at its time, then, once, the service stage.
 pub fn event(
     head: Head,
-    cells: &mut [u32; 128],
-    times: &mut [u64; 64],
-    seats: &mut [u8; 128],
-    waiters: &mut [u64; 256],
+    cells: &mut Cells,
+    times: &mut Times,
+    seats: &mut Seats,
+    waiters: &mut Waiters,
     out: &mut [u8],
     e: Event,
     time: u64,
@@ -189,10 +193,10 @@ pub fn event(
 // Any event: refused, and then nothing is changed, or done.
 pub fn step(
     head: Head,
-    cells: &mut [u32; 128],
-    times: &mut [u64; 64],
-    seats: &mut [u8; 128],
-    waiters: &mut [u64; 256],
+    cells: &mut Cells,
+    times: &mut Times,
+    seats: &mut Seats,
+    waiters: &mut Waiters,
     out: &mut [u8],
     e: Event,
     time: u64,
@@ -221,10 +225,10 @@ pub fn step(
 // Any frame, any output.
 pub fn call(
     head: Head,
-    cells: &mut [u32; 128],
-    times: &mut [u64; 64],
-    seats: &mut [u8; 128],
-    waiters: &mut [u64; 256],
+    cells: &mut Cells,
+    times: &mut Times,
+    seats: &mut Seats,
+    waiters: &mut Waiters,
     out: &mut [u8],
     frame: Frame,
 ) -> Answer

@@ -14,9 +14,15 @@ use definition::PinnedState;
 use definition::PoolState;
 use definition::Purpose;
 use definition::Refusal;
+use slots::Cells;
 use slots::Head;
 use slots::Mode;
 use slots::Outcome;
+use slots::QUEUE;
+use slots::SLOTS;
+use slots::Seats;
+use slots::Times;
+use slots::Waiters;
 use text::Given;
 
 pub struct Slot {
@@ -26,13 +32,12 @@ pub struct Slot {
     pub state: ConnectionState,
 }
 
-// The first `available_count` of `available` are slots, and the first `waiting_count` of `waiters` are waiters: four times
-// the request's id, and 1 if it warms the pool, 2 if it was abandoned.
+// The first `available_count` of `available` are slots, and the first `waiting_count` of `waiters` are waiters.
 pub struct Pool {
     pub head: Head,
-    pub slots: [Slot; 64],
-    pub available: [u8; 64],
-    pub waiters: [u64; 256],
+    pub slots: [Slot; SLOTS],
+    pub available: [u8; SLOTS],
+    pub waiters: Waiters,
 }
 
 pub struct Made {
@@ -49,16 +54,15 @@ pub struct Counts {
 
 // ── slots and columns ──
 
-// ids, then generations; times; states, then the available slots
 pub struct Parts {
-    pub cells: [u32; 128],
-    pub times: [u64; 64],
-    pub seats: [u8; 128],
+    pub cells: Cells,
+    pub times: Times,
+    pub seats: Seats,
 }
 
 pub struct Table {
-    pub slots: [Slot; 64],
-    pub available: [u8; 64],
+    pub slots: [Slot; SLOTS],
+    pub available: [u8; SLOTS],
 }
 
 pub fn code_of(state: ConnectionState) -> u8
@@ -106,21 +110,21 @@ fn slot_of(id: u32, generation: u32, time: u64, code: u8) -> Slot
     }
 }
 
-pub fn columns(slots: [Slot; 64], available: [u8; 64]) -> Parts
+pub fn columns(slots: [Slot; SLOTS], available: [u8; SLOTS]) -> Parts
     ensures { λ r. ⌜ Apart slots available r ⌝ }
 {
-    let mut cells: [u32; 128] = [0; 128];
-    let mut times: [u64; 64] = [0; 64];
-    let mut seats: [u8; 128] = [0; 128];
+    let mut cells: Cells = [0; 2 * SLOTS];
+    let mut times: Times = [0; SLOTS];
+    let mut seats: Seats = [0; 2 * SLOTS];
     let mut i: usize = 0;
-    while i < 64 {
+    while i < SLOTS {
         let s = slots[i];
         let k = s.state;
         cells[i] = s.id;
-        cells[64 + i] = s.generation;
+        cells[SLOTS + i] = s.generation;
         times[i] = s.time;
         seats[i] = code_of(k);
-        seats[64 + i] = available[i];
+        seats[SLOTS + i] = available[i];
         i += 1;
     }
     Parts {
@@ -130,17 +134,17 @@ pub fn columns(slots: [Slot; 64], available: [u8; 64]) -> Parts
     }
 }
 
-pub fn rows(cells: [u32; 128], times: [u64; 64], seats: [u8; 128]) -> Table
+pub fn rows(cells: Cells, times: Times, seats: Seats) -> Table
     ensures { λ r. ⌜ Again cells times seats r ⌝ }
 {
     let vacant = slot_of(0, 0, 0, 0);
-    let mut slots: [Slot; 64] = [vacant; 64];
-    let mut available: [u8; 64] = [0; 64];
+    let mut slots: [Slot; SLOTS] = [vacant; SLOTS];
+    let mut available: [u8; SLOTS] = [0; SLOTS];
     let mut i: usize = 0;
-    while i < 64 {
-        let s = slot_of(cells[i], cells[64 + i], times[i], seats[i]);
+    while i < SLOTS {
+        let s = slot_of(cells[i], cells[SLOTS + i], times[i], seats[i]);
         slots[i] = s;
-        available[i] = seats[64 + i];
+        available[i] = seats[SLOTS + i];
         i += 1;
     }
     Table {
@@ -181,13 +185,18 @@ pub fn both(a: bool, b: bool) -> bool
     false
 }
 
+const MOST: u32 = SLOTS as u32;
+
 pub fn in_range(o: Options) -> bool
     ensures { λ r. ⌜ r ≡ inRange o ⌝ }
 {
     let a = o.maximum;
     let b = o.minimum;
     let c = o.connecting;
-    both(both(both(both(1 <= a, a <= 64), b <= a), 1 <= c), c <= 64)
+    both(
+        both(both(both(1 <= a, a <= MOST), b <= a), 1 <= c),
+        c <= MOST,
+    )
 }
 
 // Of a pool in which nothing has happened, all of whose cells are 0.
@@ -216,12 +225,12 @@ fn fresh(o: Options) -> Pool
 {
     let h = fresh_head(o);
     let vacant = slot_of(0, 0, 0, 0);
-    let slots: [Slot; 64] = [vacant; 64];
+    let slots: [Slot; SLOTS] = [vacant; SLOTS];
     Pool {
         head: h,
         slots: slots,
-        available: [0; 64],
-        waiters: [0; 256],
+        available: [0; SLOTS],
+        waiters: [0; QUEUE],
     }
 }
 

@@ -17,8 +17,14 @@ ghost use Rattle.replay.specs.Days.{dayIn, Logged};
 ghost use Rattle.replay.specs.Code.{playOf, viewOf, heldOf, Able, Opens, Lined, Holds, Kept, Pieced, Read};
 use definition::Options;
 use definition::Refusal;
+use slots::Cells;
 use slots::Head;
 use slots::Outcome;
+use slots::QUEUE;
+use slots::SLOTS;
+use slots::Seats;
+use slots::Times;
+use slots::Waiters;
 use text::Given;
 
 // ── A line ──
@@ -69,10 +75,10 @@ fn ended(pace: Pace, head: Head) -> Taken
 fn take_first(
     pace: Pace,
     head: Head,
-    cells: &mut [u32; 128],
-    times: &mut [u64; 64],
-    seats: &mut [u8; 128],
-    waiters: &mut [u64; 256],
+    cells: &mut Cells,
+    times: &mut Times,
+    seats: &mut Seats,
+    waiters: &mut Waiters,
     l: &[u8],
     o: &mut [u8],
 ) -> Taken
@@ -83,10 +89,10 @@ fn take_first(
         Given::Options(p) => {
             let q = pool::with_defaults(p);
             if pool::in_range(q) {
-                *cells = [0u32; 128];
-                *times = [0u64; 64];
-                *seats = [0u8; 128];
-                *waiters = [0u64; 256];
+                *cells = [0; 2 * SLOTS];
+                *times = [0; SLOTS];
+                *seats = [0; 2 * SLOTS];
+                *waiters = [0; QUEUE];
                 let h = pool::fresh_head(q);
                 Taken {
                     pace: Pace {
@@ -129,10 +135,10 @@ fn counted(pace: Pace, head: Head, written: usize) -> Taken
 fn take_frame(
     pace: Pace,
     head: Head,
-    cells: &mut [u32; 128],
-    times: &mut [u64; 64],
-    seats: &mut [u8; 128],
-    waiters: &mut [u64; 256],
+    cells: &mut Cells,
+    times: &mut Times,
+    seats: &mut Seats,
+    waiters: &mut Waiters,
     l: &[u8],
     scratch: &mut [u8],
     o: &mut [u8],
@@ -161,10 +167,10 @@ fn take_frame(
 pub fn take_line(
     pace: Pace,
     head: Head,
-    cells: &mut [u32; 128],
-    times: &mut [u64; 64],
-    seats: &mut [u8; 128],
-    waiters: &mut [u64; 256],
+    cells: &mut Cells,
+    times: &mut Times,
+    seats: &mut Seats,
+    waiters: &mut Waiters,
     l: &[u8],
     scratch: &mut [u8],
     o: &mut [u8],
@@ -287,10 +293,10 @@ fn take_piece(
     head: Head,
     held: [u8; 50],
     count: usize,
-    cells: &mut [u32; 128],
-    times: &mut [u64; 64],
-    seats: &mut [u8; 128],
-    waiters: &mut [u64; 256],
+    cells: &mut Cells,
+    times: &mut Times,
+    seats: &mut Seats,
+    waiters: &mut Waiters,
     p: &[u8],
     scratch: &mut [u8],
     o: &mut [u8],
@@ -345,10 +351,10 @@ pub struct Part {
 pub fn replay_some(
     run: Run,
     head: Head,
-    cells: &mut [u32; 128],
-    times: &mut [u64; 64],
-    seats: &mut [u8; 128],
-    waiters: &mut [u64; 256],
+    cells: &mut Cells,
+    times: &mut Times,
+    seats: &mut Seats,
+    waiters: &mut Waiters,
     text: &[u8],
     scratch: &mut [u8],
     o: &mut [u8],
@@ -444,10 +450,10 @@ pub fn no_head() -> Head
 pub fn finish(
     run: Run,
     head: Head,
-    cells: &mut [u32; 128],
-    times: &mut [u64; 64],
-    seats: &mut [u8; 128],
-    waiters: &mut [u64; 256],
+    cells: &mut Cells,
+    times: &mut Times,
+    seats: &mut Seats,
+    waiters: &mut Waiters,
     scratch: &mut [u8],
     o: &mut [u8],
 ) -> Taken
@@ -503,10 +509,10 @@ pub struct Day {
 pub fn replay_day(budget: u64, text: &[u8], o: &mut [u8]) -> Day
     ensures { λ r. ⌜ Logged (dayIn (length (now (o .entry))) budget (now (text .entry))) (now (o .entry)) (now (o .exit)) r ⌝ }
 {
-    let mut cells = [0u32; 128];
-    let mut times = [0u64; 64];
-    let mut seats = [0u8; 128];
-    let mut waiters = [0u64; 256];
+    let mut cells: Cells = [0; 2 * SLOTS];
+    let mut times: Times = [0; SLOTS];
+    let mut seats: Seats = [0; 2 * SLOTS];
+    let mut waiters: Waiters = [0; QUEUE];
     let mut scratch = [0u8; 8192];
     let run = begin(budget);
     let head = no_head();

@@ -13,7 +13,13 @@ use libc::STDERR_FILENO;
 use libc::STDIN_FILENO;
 use libc::STDOUT_FILENO;
 use replay::Run;
+use slots::Cells;
 use slots::Head;
+use slots::QUEUE;
+use slots::SLOTS;
+use slots::Seats;
+use slots::Times;
+use slots::Waiters;
 
 // ── The run ──
 
@@ -37,10 +43,10 @@ fn put(bytes: &[u8]) -> bool {
 fn drain(
     run: Run,
     head: Head,
-    cells: &mut [u32; 128],
-    times: &mut [u64; 64],
-    seats: &mut [u8; 128],
-    waiters: &mut [u64; 256],
+    cells: &mut Cells,
+    times: &mut Times,
+    seats: &mut Seats,
+    waiters: &mut Waiters,
     text: &[u8],
     scratch: &mut [u8],
     out: &mut [u8],
@@ -88,10 +94,10 @@ fn drain(
 fn turn(
     run: Run,
     head: Head,
-    cells: &mut [u32; 128],
-    times: &mut [u64; 64],
-    seats: &mut [u8; 128],
-    waiters: &mut [u64; 256],
+    cells: &mut Cells,
+    times: &mut Times,
+    seats: &mut Seats,
+    waiters: &mut Waiters,
     fd: i32,
     name: &[u8],
     buf: &mut [u8],
@@ -137,10 +143,10 @@ fn turn(
 fn all(
     run: Run,
     head: Head,
-    cells: &mut [u32; 128],
-    times: &mut [u64; 64],
-    seats: &mut [u8; 128],
-    waiters: &mut [u64; 256],
+    cells: &mut Cells,
+    times: &mut Times,
+    seats: &mut Seats,
+    waiters: &mut Waiters,
     fd: i32,
     name: &[u8],
     buf: &mut [u8],
@@ -190,10 +196,10 @@ fn tell_used(used: u64) {
 
 // The day behind a descriptor.
 fn play(fd: i32, name: &[u8], budget: u64, is_used: bool) {
-    let mut cells = [0u32; 128];
-    let mut times = [0u64; 64];
-    let mut seats = [0u8; 128];
-    let mut waiters = [0u64; 256];
+    let mut cells: Cells = [0; 2 * SLOTS];
+    let mut times: Times = [0; SLOTS];
+    let mut seats: Seats = [0; 2 * SLOTS];
+    let mut waiters: Waiters = [0; QUEUE];
     let mut buf = io::large_buffer();
     let mut scratch = [0u8; 8192];
     let mut out = io::large_buffer();

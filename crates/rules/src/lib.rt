@@ -3,6 +3,7 @@ ghost use mathlib.Core.Path.{_≡_};
 ghost use mathlib.Core.Bool.{_&&_, not};
 ghost use Prim.Native.Nat.{_≤_};
 ghost use lib.ListN.{drop};
+ghost use Rattle.definition.specs.Pool.{most, queueLength};
 ghost use Rattle.definition.specs.Words.{_=?_, _<?_};
 ghost use Rattle.slots.specs.View.{Whole, given, before};
 ghost use Rattle.refinement.specs.Kept.{isPending};
@@ -10,7 +11,13 @@ ghost use Rattle.refinement.specs.Rules.{isShelved};
 ghost use Rattle.rules.specs.Tests.{bit, among, blankPast, isTaken, slotFits, waiterFits, idsBelow, idsDistinct, slotsFit, countsRight, orderRight, blankFrom, queueRises};
 ghost use Rattle.rules.specs.Exact.{Exactly};
 use pool::both;
+use slots::Cells;
 use slots::Head;
+use slots::QUEUE;
+use slots::SLOTS;
+use slots::Seats;
+use slots::Times;
+use slots::Waiters;
 
 // ── words ──
 
@@ -87,12 +94,12 @@ fn waiter_fits(before: u64, id: u64, last: u64) -> bool
 
 // ── the rules ──
 
-fn ids_below(cells: &[u32; 128], next: u32) -> bool
+fn ids_below(cells: &Cells, next: u32) -> bool
     ensures { λ r. ⌜ r ≡ idsBelow (now (cells .entry)) next ⌝ }
 {
     let mut ok = true;
     let mut i: usize = 0;
-    while i < 64 {
+    while i < SLOTS {
         ok = both(ok, below(cells[i], next));
         i += 1;
     }
@@ -100,8 +107,8 @@ fn ids_below(cells: &[u32; 128], next: u32) -> bool
 }
 
 // Whether x stands among the first n ids.
-fn is_among(cells: &[u32; 128], n: usize, x: u32) -> bool
-    requires { ⌜ n ≤ 64 ⌝ }
+fn is_among(cells: &Cells, n: usize, x: u32) -> bool
+    requires { ⌜ n ≤ most ⌝ }
     ensures { λ r. ⌜ r ≡ among x n (now (cells .entry)) ⌝ }
 {
     let mut i: usize = 0;
@@ -115,8 +122,8 @@ fn is_among(cells: &[u32; 128], n: usize, x: u32) -> bool
 }
 
 // Whether the id x stands among the first n, where a mark says that it may.
-fn clashes(cells: &[u32; 128], n: usize, x: u32, mark: u8) -> bool
-    requires { ⌜ n ≤ 64 ⌝ }
+fn clashes(cells: &Cells, n: usize, x: u32, mark: u8) -> bool
+    requires { ⌜ n ≤ most ⌝ }
     ensures { λ r. ⌜ r ≡ not (mark =? 0) && (not (x =? 0) && among x n (now (cells .entry))) ⌝ }
 {
     if mark == 0 {
@@ -129,12 +136,12 @@ fn clashes(cells: &[u32; 128], n: usize, x: u32, mark: u8) -> bool
 }
 
 // A mark for each remainder: only where one is met again are the ids before looked through.
-fn ids_distinct(cells: &[u32; 128]) -> bool
+fn ids_distinct(cells: &Cells) -> bool
     ensures { λ r. ⌜ r ≡ idsDistinct (now (cells .entry)) ⌝ }
 {
     let mut marks: [u8; 256] = [0; 256];
     let mut i: usize = 0;
-    while i < 64 {
+    while i < SLOTS {
         let x = cells[i];
         let h = (x % 256) as usize;
         let mark = marks[h];
@@ -148,26 +155,29 @@ fn ids_distinct(cells: &[u32; 128]) -> bool
 }
 
 // A slot without an id is vacant, a slot with one is not.
-fn slots_fit(cells: &[u32; 128], times: &[u64; 64], seats: &[u8; 128]) -> bool
+fn slots_fit(cells: &Cells, times: &Times, seats: &Seats) -> bool
     ensures { λ r. ⌜ r ≡ slotsFit (now (cells .entry)) (now (times .entry)) (now (seats .entry)) ⌝ }
 {
     let mut ok = true;
     let mut i: usize = 0;
-    while i < 64 {
-        ok = both(ok, slot_fits(cells[i], cells[64 + i], times[i], seats[i]));
+    while i < SLOTS {
+        ok = both(
+            ok,
+            slot_fits(cells[i], cells[SLOTS + i], times[i], seats[i]),
+        );
         i += 1;
     }
     ok
 }
 
-fn counts_right(seats: &[u8; 128], total: u32, pending: u32, available: usize) -> bool
+fn counts_right(seats: &Seats, total: u32, pending: u32, available: usize) -> bool
     ensures { λ r. ⌜ r ≡ countsRight (now (seats .entry)) total pending available ⌝ }
 {
     let mut taken: u32 = 0;
     let mut waits: u32 = 0;
     let mut shelved: u32 = 0;
     let mut i: usize = 0;
-    while i < 64 {
+    while i < SLOTS {
         let k = seats[i];
         taken = taken + one_if(is_taken(k));
         waits = waits + one_if(is_pending(k));
@@ -181,17 +191,17 @@ fn counts_right(seats: &[u8; 128], total: u32, pending: u32, available: usize) -
 }
 
 // What is listed is a slot, is checked in, and was not met before.
-fn order_right(seats: &[u8; 128], n: usize) -> bool
-    ensures { λ r. ⌜ r ≡ orderRight (drop 64 (now (seats .entry))) (now (seats .entry)) n ⌝ }
+fn order_right(seats: &Seats, n: usize) -> bool
+    ensures { λ r. ⌜ r ≡ orderRight (drop most (now (seats .entry))) (now (seats .entry)) n ⌝ }
 {
-    if 64 < n {
+    if SLOTS < n {
         return false;
     }
-    let mut met: [u8; 64] = [0; 64];
+    let mut met: [u8; SLOTS] = [0; SLOTS];
     let mut i: usize = 0;
     while i < n {
-        let e = wide(seats[64 + i]);
-        if 64 <= e {
+        let e = wide(seats[SLOTS + i]);
+        if SLOTS <= e {
             return false;
         }
         if seats[e] != 1 {
@@ -206,23 +216,23 @@ fn order_right(seats: &[u8; 128], n: usize) -> bool
     true
 }
 
-fn order_blank_from(seats: &[u8; 128], n: usize) -> bool
-    ensures { λ r. ⌜ r ≡ blankFrom 64 n (drop 64 (now (seats .entry))) ⌝ }
+fn order_blank_from(seats: &Seats, n: usize) -> bool
+    ensures { λ r. ⌜ r ≡ blankFrom most n (drop most (now (seats .entry))) ⌝ }
 {
     let mut ok = true;
     let mut i: usize = 0;
-    while i < 64 {
-        ok = both(ok, blank_past(n, i, long(seats[64 + i])));
+    while i < SLOTS {
+        ok = both(ok, blank_past(n, i, long(seats[SLOTS + i])));
         i += 1;
     }
     ok
 }
 
 // Request ids rise, the first above 0, none above the last.
-fn queue_rises(waiters: &[u64; 256], n: usize, last: u32) -> bool
+fn queue_rises(waiters: &Waiters, n: usize, last: u32) -> bool
     ensures { λ r. ⌜ r ≡ queueRises (now (waiters .entry)) n last ⌝ }
 {
-    if 256 < n {
+    if QUEUE < n {
         return false;
     }
     let top = last as u64;
@@ -239,15 +249,15 @@ fn queue_rises(waiters: &[u64; 256], n: usize, last: u32) -> bool
 }
 
 // With no return in the loop, so that several are looked at at once.
-fn queue_blank_from(waiters: &[u64; 256], n: usize) -> bool
-    ensures { λ r. ⌜ r ≡ blankFrom 256 n (now (waiters .entry)) ⌝ }
+fn queue_blank_from(waiters: &Waiters, n: usize) -> bool
+    ensures { λ r. ⌜ r ≡ blankFrom queueLength n (now (waiters .entry)) ⌝ }
 {
-    if 256 < n {
+    if QUEUE < n {
         return true;
     }
     let mut ok = true;
     let mut i = n;
-    while i < 256 {
+    while i < QUEUE {
         if waiters[i] != 0 {
             ok = false;
         }
@@ -259,10 +269,10 @@ fn queue_blank_from(waiters: &[u64; 256], n: usize) -> bool
 // The structure test: whether a pool keeps every rule. That the serial fits is its type's to say.
 pub fn keeps_rules(
     head: Head,
-    cells: &[u32; 128],
-    times: &[u64; 64],
-    seats: &[u8; 128],
-    waiters: &[u64; 256],
+    cells: &Cells,
+    times: &Times,
+    seats: &Seats,
+    waiters: &Waiters,
 ) -> bool
     requires { ⌜ Whole (given head cells times seats waiters) ⌝ }
     ensures { λ r. ⌜ Exactly r (before head cells times seats waiters) ⌝ }

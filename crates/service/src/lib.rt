@@ -6,7 +6,12 @@ ghost use Rattle.slots.specs.Done.{Room, Done};
 ghost use Rattle.slots.specs.Needs.{CanCreate, CanShelve, CanTake, CanWarm, CanServe};
 ghost use Rattle.slots.specs.Slots.{establish, takeFrom, lend, checkOut, canServiceAt, service};
 use acts::Core;
+use slots::Cells;
 use slots::Head;
+use slots::SLOTS;
+use slots::Seats;
+use slots::Times;
+use slots::Waiters;
 
 pub fn can_service_connection_request(head: Head) -> bool
     ensures { λ r. ⌜ r ≡ canServiceAt (head .mode .state) (head .options) (head .«available_count») (head .«total_connection_count») (head .«pending_connection_count») ⌝ }
@@ -31,10 +36,10 @@ pub fn can_service_connection_request(head: Head) -> bool
 // Create, then 17.
 pub fn establish(
     head: Head,
-    cells: &mut [u32; 128],
-    times: &mut [u64; 64],
-    seats: &mut [u8; 128],
-    waiters: &mut [u64; 256],
+    cells: &mut Cells,
+    times: &mut Times,
+    seats: &mut Seats,
+    waiters: &mut Waiters,
     out: &mut [u8],
     n: u32,
     waiter: u64,
@@ -56,10 +61,10 @@ pub fn establish(
 // A healthy one: 16; for an abandoned waiter it goes back to the available back with time now.
 pub fn lend(
     head: Head,
-    cells: &mut [u32; 128],
-    times: &mut [u64; 64],
-    seats: &mut [u8; 128],
-    waiters: &mut [u64; 256],
+    cells: &mut Cells,
+    times: &mut Times,
+    seats: &mut Seats,
+    waiters: &mut Waiters,
     out: &mut [u8],
     n: u32,
     waiter: u64,
@@ -86,10 +91,10 @@ pub fn lend(
 // From the available back: those that have perished are closed, until one is lent; else one is created.
 pub fn take_available(
     head: Head,
-    cells: &mut [u32; 128],
-    times: &mut [u64; 64],
-    seats: &mut [u8; 128],
-    waiters: &mut [u64; 256],
+    cells: &mut Cells,
+    times: &mut Times,
+    seats: &mut Seats,
+    waiters: &mut Waiters,
     out: &mut [u8],
     n: u32,
     waiter: u64,
@@ -102,10 +107,10 @@ pub fn take_available(
     let mut k = head.available_count;
     while 0 < k {
         k = k - 1;
-        let i = acts::wide(seats[64 + k]);
+        let i = acts::wide(seats[SLOTS + k]);
         let m = h.mode;
         let o = h.options;
-        let r = acts::perished(m.generation, o.idle, h.clock, cells[64 + i], times[i]);
+        let r = acts::perished(m.generation, o.idle, h.clock, cells[SLOTS + i], times[i]);
         h = acts::pop_back(h, cells, times, seats, waiters);
         if r == 0 {
             return lend(h, cells, times, seats, waiters, out, count, waiter, i);
@@ -120,10 +125,10 @@ pub fn take_available(
 // Warm with total at or above minimum: 18.
 pub fn check_out(
     head: Head,
-    cells: &mut [u32; 128],
-    times: &mut [u64; 64],
-    seats: &mut [u8; 128],
-    waiters: &mut [u64; 256],
+    cells: &mut Cells,
+    times: &mut Times,
+    seats: &mut Seats,
+    waiters: &mut Waiters,
     out: &mut [u8],
     n: u32,
     waiter: u64,
@@ -147,10 +152,10 @@ pub fn check_out(
 
 pub fn service(
     head: Head,
-    cells: &mut [u32; 128],
-    times: &mut [u64; 64],
-    seats: &mut [u8; 128],
-    waiters: &mut [u64; 256],
+    cells: &mut Cells,
+    times: &mut Times,
+    seats: &mut Seats,
+    waiters: &mut Waiters,
     out: &mut [u8],
     n: u32,
 ) -> Core

@@ -8,6 +8,24 @@ pub struct Mode {
     pub generation: u32,
 }
 
+// ── The columns ──
+
+pub const SLOTS: usize = 64;
+
+pub const QUEUE: usize = 256;
+
+// The slots' ids, then their generations.
+pub type Cells = [u32; 2 * SLOTS];
+
+// When each slot's connection became available, or was last named.
+pub type Times = [u64; SLOTS];
+
+// The slots' states, then the available slots, front to back.
+pub type Seats = [u8; 2 * SLOTS];
+
+// Front to back: four times the request's id, and 1 if it warms the pool, 2 if it was abandoned.
+pub type Waiters = [u64; QUEUE];
+
 // What a pool holds beside its columns.
 pub struct Head {
     pub options: Options,

@@ -2,6 +2,7 @@
 ghost use mathlib.Core.Path.{_≡_};
 ghost use Prim.Native.Nat.{_+_, _≤_, _<_, _%_};
 ghost use lib.ListN.{getD};
+ghost use Rattle.definition.specs.Pool.{queueLength};
 ghost use Rattle.slots.specs.View.{given, before, after, Whole};
 ghost use Rattle.slots.specs.Done.{Room, Done};
 ghost use Rattle.slots.specs.Needs.{CanClose, CanShelve, CanLeave, CanQueue};
@@ -10,16 +11,21 @@ ghost use Rattle.definition.specs.Events.{bit};
 ghost use Rattle.slots.specs.Slots.{request, abandonAt, checkInAt, markAsReady, succeededAt, succeededForPoolAt, failedAt};
 use acts::Core;
 use definition::PoolState;
+use slots::Cells;
 use slots::Head;
 use slots::Mode;
+use slots::SLOTS;
+use slots::Seats;
+use slots::Times;
+use slots::Waiters;
 
 // A request: to the queue's back if Ready, else answered at once with the cause.
 pub fn request(
     head: Head,
-    cells: &mut [u32; 128],
-    times: &mut [u64; 64],
-    seats: &mut [u8; 128],
-    waiters: &mut [u64; 256],
+    cells: &mut Cells,
+    times: &mut Times,
+    seats: &mut Seats,
+    waiters: &mut Waiters,
     out: &mut [u8],
     n: u32,
     id: u32,
@@ -75,13 +81,13 @@ fn abandoned(w: u64) -> u64
 // The waiter at place k, not abandoned so far, is marked so.
 pub fn abandon(
     head: Head,
-    cells: &mut [u32; 128],
-    times: &mut [u64; 64],
-    seats: &mut [u8; 128],
-    waiters: &mut [u64; 256],
+    cells: &mut Cells,
+    times: &mut Times,
+    seats: &mut Seats,
+    waiters: &mut Waiters,
     k: usize,
 )
-    requires { ⌜ Whole (given head cells times seats waiters) × (k < 256) × (getD (now waiters) k 0 % 4 < 2) ⌝ }
+    requires { ⌜ Whole (given head cells times seats waiters) × (k < queueLength) × (getD (now waiters) k 0 % 4 < 2) ⌝ }
     ensures { λ _. ⌜ after head cells times seats waiters ≡ abandonAt k (before head cells times seats waiters) .pool ⌝ }
 {
     waiters[k] = abandoned(waiters[k]);
@@ -90,10 +96,10 @@ pub fn abandon(
 // A check-in: errored before stale before executing; else to the available list, available since it was let go.
 pub fn check_in(
     head: Head,
-    cells: &mut [u32; 128],
-    times: &mut [u64; 64],
-    seats: &mut [u8; 128],
-    waiters: &mut [u64; 256],
+    cells: &mut Cells,
+    times: &mut Times,
+    seats: &mut Seats,
+    waiters: &mut Waiters,
     out: &mut [u8],
     n: u32,
     i: usize,
@@ -113,7 +119,7 @@ pub fn check_in(
     if errored {
         return acts::close_connection(head, cells, times, seats, waiters, out, n + 1, i, 3);
     }
-    if cells[64 + i] != m.generation {
+    if cells[SLOTS + i] != m.generation {
         return acts::close_connection(head, cells, times, seats, waiters, out, n + 1, i, 2);
     }
     if executing {
@@ -128,10 +134,10 @@ pub fn check_in(
 
 pub fn mark_as_ready(
     head: Head,
-    cells: &mut [u32; 128],
-    times: &mut [u64; 64],
-    seats: &mut [u8; 128],
-    waiters: &mut [u64; 256],
+    cells: &mut Cells,
+    times: &mut Times,
+    seats: &mut Seats,
+    waiters: &mut Waiters,
     out: &mut [u8],
     n: u32,
 ) -> Core
@@ -162,10 +168,10 @@ pub fn mark_as_ready(
 // A pending connection for a request becomes lent.
 pub fn handle_connection_succeeded(
     head: Head,
-    cells: &mut [u32; 128],
-    times: &mut [u64; 64],
-    seats: &mut [u8; 128],
-    waiters: &mut [u64; 256],
+    cells: &mut Cells,
+    times: &mut Times,
+    seats: &mut Seats,
+    waiters: &mut Waiters,
     out: &mut [u8],
     n: u32,
     i: usize,
@@ -186,10 +192,10 @@ pub fn handle_connection_succeeded(
 // One in background becomes available, even if stale; of a closed pool it is closed.
 pub fn handle_connection_succeeded_for_pool(
     head: Head,
-    cells: &mut [u32; 128],
-    times: &mut [u64; 64],
-    seats: &mut [u8; 128],
-    waiters: &mut [u64; 256],
+    cells: &mut Cells,
+    times: &mut Times,
+    seats: &mut Seats,
+    waiters: &mut Waiters,
     out: &mut [u8],
     n: u32,
     i: usize,
@@ -215,10 +221,10 @@ pub fn handle_connection_succeeded_for_pool(
 
 pub fn handle_connection_failed(
     head: Head,
-    cells: &mut [u32; 128],
-    times: &mut [u64; 64],
-    seats: &mut [u8; 128],
-    waiters: &mut [u64; 256],
+    cells: &mut Cells,
+    times: &mut Times,
+    seats: &mut Seats,
+    waiters: &mut Waiters,
     out: &mut [u8],
     n: u32,
     i: usize,

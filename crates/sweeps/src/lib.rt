@@ -1,21 +1,27 @@
 // What goes over a list, one by one: the waiters that are told, the available ones that are closed, those that are made.
 ghost use mathlib.Core.Path.{_≡_};
 ghost use Prim.Native.Nat.{_+_, _≤_, _<_};
+ghost use Rattle.definition.specs.Pool.{most};
 ghost use Rattle.slots.specs.View.{given, before, after, Whole};
 ghost use Rattle.slots.specs.Done.{Room, Done};
 ghost use Rattle.slots.specs.Codes.{replyOf, IsReply};
 ghost use Rattle.slots.specs.Needs.{CanPrune, CanFill, CanTell};
 ghost use Rattle.slots.specs.Slots.{removePerished, ensureMinConnections, tellAll, closeFront};
 use acts::Core;
+use slots::Cells;
 use slots::Head;
+use slots::SLOTS;
+use slots::Seats;
+use slots::Times;
+use slots::Waiters;
 
 // Every waiter, front to back: 19 with its cause, or 20.
 pub fn tell_all(
     head: Head,
-    cells: &mut [u32; 128],
-    times: &mut [u64; 64],
-    seats: &mut [u8; 128],
-    waiters: &mut [u64; 256],
+    cells: &mut Cells,
+    times: &mut Times,
+    seats: &mut Seats,
+    waiters: &mut Waiters,
     out: &mut [u8],
     n: u32,
     kind: u8,
@@ -45,10 +51,10 @@ pub fn tell_all(
 // Maintenance, first: from the available front, up to the first healthy one.
 pub fn remove_perished_connections(
     head: Head,
-    cells: &mut [u32; 128],
-    times: &mut [u64; 64],
-    seats: &mut [u8; 128],
-    waiters: &mut [u64; 256],
+    cells: &mut Cells,
+    times: &mut Times,
+    seats: &mut Seats,
+    waiters: &mut Waiters,
     out: &mut [u8],
     n: u32,
 ) -> Core
@@ -59,10 +65,10 @@ pub fn remove_perished_connections(
     let mut count = n;
     let mut k = head.available_count;
     while 0 < k {
-        let i = acts::wide(seats[64]);
+        let i = acts::wide(seats[SLOTS]);
         let m = h.mode;
         let o = h.options;
-        let r = acts::perished(m.generation, o.idle, h.clock, cells[64 + i], times[i]);
+        let r = acts::perished(m.generation, o.idle, h.clock, cells[SLOTS + i], times[i]);
         if r == 0 {
             return Core {
                 head: h,
@@ -84,14 +90,14 @@ pub fn remove_perished_connections(
 // Maintenance, then: background connections while total is below the minimum and pending below max connecting.
 pub fn ensure_min_connections(
     head: Head,
-    cells: &mut [u32; 128],
-    times: &mut [u64; 64],
-    seats: &mut [u8; 128],
-    waiters: &mut [u64; 256],
+    cells: &mut Cells,
+    times: &mut Times,
+    seats: &mut Seats,
+    waiters: &mut Waiters,
     out: &mut [u8],
     n: u32,
 ) -> Core
-    requires { ⌜ Whole (given head cells times seats waiters) × CanFill (given head cells times seats waiters) × Room 64 n (now out) ⌝ }
+    requires { ⌜ Whole (given head cells times seats waiters) × CanFill (given head cells times seats waiters) × Room most n (now out) ⌝ }
     ensures { λ r. ⌜ Done (ensureMinConnections (before head cells times seats waiters)) (head .serial) n (now (out .entry)) (after (r .head) cells times seats waiters) (r .count) (now (out .exit)) ⌝ }
 {
     let mut h = head;
@@ -125,10 +131,10 @@ pub fn ensure_min_connections(
 // Every available connection, front to back, is closed with its pool.
 pub fn close_available(
     head: Head,
-    cells: &mut [u32; 128],
-    times: &mut [u64; 64],
-    seats: &mut [u8; 128],
-    waiters: &mut [u64; 256],
+    cells: &mut Cells,
+    times: &mut Times,
+    seats: &mut Seats,
+    waiters: &mut Waiters,
     out: &mut [u8],
     n: u32,
 ) -> Core
@@ -139,7 +145,7 @@ pub fn close_available(
     let mut count = n;
     let mut k = head.available_count;
     while 0 < k {
-        let i = acts::wide(seats[64]);
+        let i = acts::wide(seats[SLOTS]);
         h = acts::pop_front(h, cells, times, seats, waiters);
         let c = acts::close_connection(h, cells, times, seats, waiters, out, count, i, 5);
         h = c.head;

@@ -3,28 +3,33 @@ ghost use mathlib.Core.Path.{_≡_};
 ghost use mathlib.Core.List.{_++_};
 ghost use Prim.Native.Nat.{_+_, _*_, _≤_, _<_};
 ghost use lib.ListN.{length, take, drop};
+ghost use Rattle.definition.specs.Pool.{most, queueLength};
 ghost use Rattle.definition.specs.Records.{fields};
 ghost use Rattle.definition.specs.Bytes.{serialOf, recordBytes};
 ghost use Rattle.slots.specs.Order.{place, placeOf, shifted};
 ghost use Rattle.slots.specs.Laid.{laid};
+use slots::Cells;
+use slots::SLOTS;
+use slots::Seats;
+use slots::Waiters;
 
-// The first of the front 64 cells that holds the number, or 64.
-pub fn find(cells: &[u32; 128], id: u32) -> usize
-    ensures { λ r. ⌜ r ≡ place id 64 (now (cells .entry)) ⌝ }
+// The slot whose id is the number, or the count of slots.
+pub fn find(cells: &Cells, id: u32) -> usize
+    ensures { λ r. ⌜ r ≡ place id most (now (cells .entry)) ⌝ }
 {
     let mut i: usize = 0;
-    while i < 64 {
+    while i < SLOTS {
         if cells[i] == id {
             return i;
         }
         i += 1;
     }
-    64
+    SLOTS
 }
 
 // The first of the front n waiters with the request id, or n. A waiter is four times its id, and its marks.
-pub fn find_waiter(waiters: &[u64; 256], n: usize, id: u32) -> usize
-    requires { ⌜ n ≤ 256 ⌝ }
+pub fn find_waiter(waiters: &Waiters, n: usize, id: u32) -> usize
+    requires { ⌜ n ≤ queueLength ⌝ }
     ensures { λ r. ⌜ r ≡ placeOf id n (now (waiters .entry)) ⌝ }
 {
     let wanted = id as u64;
@@ -38,22 +43,25 @@ pub fn find_waiter(waiters: &[u64; 256], n: usize, id: u32) -> usize
     n
 }
 
-// Of the order list behind the 64 states: the front leaves, the others of the n move up, and a 0 stands last of the n.
-pub fn shift_order(seats: &mut [u8; 128], n: usize)
-    requires { ⌜ (0 < n) × (n ≤ 64) × (length (now seats) ≡ 128) ⌝ }
-    ensures { λ _. ⌜ (take 64 (now (seats .exit)) ≡ take 64 (now (seats .entry))) × (drop 64 (now (seats .exit)) ≡ shifted n (drop 64 (now (seats .entry)))) ⌝ }
+// The last of the states, before the order list.
+const LAST: usize = SLOTS - 1;
+
+// Of the order list: the front leaves, the others of the n move up, and a 0 stands last of the n.
+pub fn shift_order(seats: &mut Seats, n: usize)
+    requires { ⌜ (0 < n) × (n ≤ most) × (length (now seats) ≡ 2 * most) ⌝ }
+    ensures { λ _. ⌜ (take most (now (seats .exit)) ≡ take most (now (seats .entry))) × (drop most (now (seats .exit)) ≡ shifted n (drop most (now (seats .entry)))) ⌝ }
 {
     let mut i: usize = 1;
     while i < n {
-        seats[63 + i] = seats[64 + i];
+        seats[LAST + i] = seats[SLOTS + i];
         i += 1;
     }
-    seats[63 + n] = 0;
+    seats[LAST + n] = 0;
 }
 
 // The front waiter leaves, the others of the n move up, and a 0 stands last of the n.
-pub fn shift_waiters(waiters: &mut [u64; 256], n: usize)
-    requires { ⌜ (0 < n) × (n ≤ 256) × (length (now waiters) ≡ 256) ⌝ }
+pub fn shift_waiters(waiters: &mut Waiters, n: usize)
+    requires { ⌜ (0 < n) × (n ≤ queueLength) × (length (now waiters) ≡ queueLength) ⌝ }
     ensures { λ _. ⌜ now (waiters .exit) ≡ shifted n (now (waiters .entry)) ⌝ }
 {
     let mut i: usize = 1;

@@ -11,15 +11,19 @@ ghost use Rattle.slots.specs.Slots.{maintenance, clearedReady, clear, shut};
 ghost use Rattle.upkeep.specs.Stood.{Stood, Said, interrupting};
 use acts::Core;
 use definition::PoolState;
+use slots::Cells;
 use slots::Head;
 use slots::Mode;
+use slots::Seats;
+use slots::Times;
+use slots::Waiters;
 
 pub fn perform_maintenance(
     head: Head,
-    cells: &mut [u32; 128],
-    times: &mut [u64; 64],
-    seats: &mut [u8; 128],
-    waiters: &mut [u64; 256],
+    cells: &mut Cells,
+    times: &mut Times,
+    seats: &mut Seats,
+    waiters: &mut Waiters,
     out: &mut [u8],
 ) -> Core
     requires { ⌜ Stood (given head cells times seats waiters) × (head .«next_connection_id» ≤ lastNextId) × (enoughRoom ≤ length (now out)) ⌝ }
@@ -72,10 +76,10 @@ fn next_generation(g: u32) -> u32
 // Record 6 and the waiters, of a Ready pool.
 fn clear_ready(
     head: Head,
-    cells: &mut [u32; 128],
-    times: &mut [u64; 64],
-    seats: &mut [u8; 128],
-    waiters: &mut [u64; 256],
+    cells: &mut Cells,
+    times: &mut Times,
+    seats: &mut Seats,
+    waiters: &mut Waiters,
     out: &mut [u8],
     n: u32,
     timeout: bool,
@@ -107,10 +111,10 @@ fn clear_ready(
 // On timeout record 8 first, whatever the state. Generation plus 1, Paused with the new cause.
 pub fn clear(
     head: Head,
-    cells: &mut [u32; 128],
-    times: &mut [u64; 64],
-    seats: &mut [u8; 128],
-    waiters: &mut [u64; 256],
+    cells: &mut Cells,
+    times: &mut Times,
+    seats: &mut Seats,
+    waiters: &mut Waiters,
     out: &mut [u8],
     timeout: bool,
     cause: u32,
@@ -136,10 +140,10 @@ pub fn clear(
 // The available ones front to back, the waiters front to back, then record 7.
 pub fn shut(
     head: Head,
-    cells: &mut [u32; 128],
-    times: &mut [u64; 64],
-    seats: &mut [u8; 128],
-    waiters: &mut [u64; 256],
+    cells: &mut Cells,
+    times: &mut Times,
+    seats: &mut Seats,
+    waiters: &mut Waiters,
     out: &mut [u8],
 ) -> Core
     requires { ⌜ Stood (given head cells times seats waiters) × (enoughRoom ≤ length (now out)) ⌝ }

@@ -4,7 +4,7 @@ ghost use mathlib.Core.Bool.{true, false, not, _&&_, _||_};
 ghost use Prim.Native.Nat.{_+_, _≤_, _<_, _%_};
 ghost use lib.ListN.{length, getD, take, drop};
 ghost use Rattle.definition.specs.Words.{if_then_else_, _≤?_, _<?_, _=?_};
-ghost use Rattle.definition.specs.Pool.{queueLength};
+ghost use Rattle.definition.specs.Pool.{most, queueLength};
 ghost use Rattle.definition.specs.Steps.{kindNo, _to_holds_};
 ghost use Rattle.definition.specs.Refusals.{first, wrongTime};
 ghost use Rattle.slots.specs.Order.{placeOf};
@@ -13,11 +13,17 @@ ghost use Rattle.slots.specs.Call.{ofKind, orAt, target, verdict};
 ghost use Rattle.verdict.specs.Look.{Looks, barOf, spent, commonTests, requestList, abandonList, stateList, timeList, pinList};
 use definition::Event;
 use definition::Refusal;
+use slots::Cells;
 use slots::Head;
 use slots::Mode;
+use slots::QUEUE;
+use slots::SLOTS;
+use slots::Seats;
+use slots::Times;
 use slots::Verdict;
+use slots::Waiters;
 
-// The slot of an id, 64 where it has none, and what stands there.
+// The slot of an id, the count of slots where it has none, and what stands there.
 pub struct Found {
     pub at: usize,
     pub state: u8,
@@ -108,12 +114,12 @@ pub fn barred(clock: u64, next_id: u32, m: Mode, time: u64, e: Event) -> Bar
     Bar::Open
 }
 
-pub fn look(cells: &[u32; 128], times: &[u64; 64], seats: &[u8; 128], id: u32) -> Found
-    requires { ⌜ length (rows (drop 64 (now cells)) (now times) (take 64 (now seats))) ≡ 64 ⌝ }
+pub fn look(cells: &Cells, times: &Times, seats: &Seats, id: u32) -> Found
+    requires { ⌜ length (rows (drop most (now cells)) (now times) (take most (now seats))) ≡ most ⌝ }
     ensures { λ r. ⌜ Looks (now (cells .entry)) (now (times .entry)) (now (seats .entry)) id r ⌝ }
 {
     let i = table::find(cells, id);
-    if i < 64 {
+    if i < SLOTS {
         return Found {
             at: i,
             state: seats[i],
@@ -134,15 +140,15 @@ fn request_verdict(last_request: u32, waiting: usize, id: u32) -> Verdict
     if id <= last_request {
         return Verdict::Refuse(Refusal::OldRequest);
     }
-    if 256 <= waiting {
+    if QUEUE <= waiting {
         return Verdict::Refuse(Refusal::QueueFull);
     }
     Verdict::At(0)
 }
 
 // 11, of an abandon.
-fn abandon_verdict(waiters: &[u64; 256], waiting: usize, id: u32) -> Verdict
-    requires { ⌜ waiting ≤ 256 ⌝ }
+fn abandon_verdict(waiters: &Waiters, waiting: usize, id: u32) -> Verdict
+    requires { ⌜ waiting ≤ queueLength ⌝ }
     ensures { λ r. ⌜ r ≡ orAt (placeOf id waiting (now (waiters .entry))) (first (abandonList (now (waiters .entry)) waiting id)) ⌝ }
 {
     let k = table::find_waiter(waiters, waiting, id);
@@ -204,14 +210,14 @@ fn pin_verdict(at: usize, state: u8) -> Verdict
 // The tests of one kind of event.
 pub fn of_kind(
     head: Head,
-    cells: &[u32; 128],
-    times: &[u64; 64],
-    seats: &[u8; 128],
-    waiters: &[u64; 256],
+    cells: &Cells,
+    times: &Times,
+    seats: &Seats,
+    waiters: &Waiters,
     e: Event,
     time: u64,
 ) -> Verdict
-    requires { ⌜ Whole (poolOf head (now cells) (now times) (now seats) (now waiters)) × (head .«waiting_count» ≤ 256) ⌝ }
+    requires { ⌜ Whole (poolOf head (now cells) (now times) (now seats) (now waiters)) × (head .«waiting_count» ≤ queueLength) ⌝ }
     ensures { λ r. ⌜ r ≡ orAt (target (poolOf head (now (cells .entry)) (now (times .entry)) (now (seats .entry)) (now (waiters .entry))) e) (first (ofKind (poolOf head (now (cells .entry)) (now (times .entry)) (now (seats .entry)) (now (waiters .entry))) e time)) ⌝ }
 {
     match e {
@@ -263,14 +269,14 @@ pub fn of_kind(
 // All tests of an event, in order.
 pub fn verdict(
     head: Head,
-    cells: &[u32; 128],
-    times: &[u64; 64],
-    seats: &[u8; 128],
-    waiters: &[u64; 256],
+    cells: &Cells,
+    times: &Times,
+    seats: &Seats,
+    waiters: &Waiters,
     e: Event,
     time: u64,
 ) -> Verdict
-    requires { ⌜ Whole (poolOf head (now cells) (now times) (now seats) (now waiters)) × (head .«waiting_count» ≤ 256) ⌝ }
+    requires { ⌜ Whole (poolOf head (now cells) (now times) (now seats) (now waiters)) × (head .«waiting_count» ≤ queueLength) ⌝ }
     ensures { λ r. ⌜ r ≡ verdict (poolOf head (now (cells .entry)) (now (times .entry)) (now (seats .entry)) (now (waiters .entry))) e time ⌝ }
 {
     let m = head.mode;

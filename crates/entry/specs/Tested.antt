@@ -5,6 +5,7 @@ use mathlib.Core.List.{List}
 use Prim.Native.Nat.{ℕ, _≤_, _<_}
 use lib.ListN.{length, length-map}
 use borrow.Author.Tests.{lt-ltb, le-ltb}
+use Rattle.definition.specs.Pool.{queueLength, most}
 use Rattle.definition.specs.Words.{if_then_else_}
 use Rattle.definition.specs.Refusals.{enoughRoom}
 use Rattle.definition.specs.Bytes.{frameOf}
@@ -26,9 +27,9 @@ use Rattle.pool.specs.declared.Table.{Table}
 
 -- what the types of the code say of every pool value
 pub record Typed (p : Pool) : Type 0 where
-  pub slots : length (p .slots) ≡ 64
-  pub available : length (p .available) ≡ 64
-  pub waiters : length (p .waiters) ≡ 256
+  pub slots : length (p .slots) ≡ most
+  pub available : length (p .available) ≡ most
+  pub waiters : length (p .waiters) ≡ queueLength
   pub serial : p .head .serial < 4294967296
 
 pub view-whole : (p : Pool) → Typed p → Whole (viewOf p)

@@ -1,12 +1,12 @@
 -- A pool value and its columns: the same view; taken apart and put together again; and equal views are equal pools.
 use mathlib.Core.Path.{_≡_, refl, sym, ap, subst, _∙_}
 use mathlib.Core.List.{List, [], _∷_, _++_, map}
-use Prim.Native.Nat.{ℕ, zero, suc, _+_, _≤_, _<_}
+use Prim.Native.Nat.{ℕ, zero, suc, _+_, _≤_, _<_, _*_}
 use native.Mathlib.Numerals.{add-one}
 use native.Mathlib.Omega.{arith}
 use lib.ListN.{length, getD, set, take, drop, length-map, length-set, length-drop, take-append-drop}
 use lib.Seq.{take-suc, take-suc-set, take-at, drop-at, take-all, getD-take, getD-drop, length-take-le}
-use Rattle.definition.specs.Pool.{stateNo}
+use Rattle.definition.specs.Pool.{most, stateNo}
 use Rattle.definition.specs.declared.ConnectionState.{ConnectionState}
 use Rattle.definition.specs.declared.ConnectionState.the-variants.{Vacant, CheckedIn, CheckedOut, Pinned, Pending}
 use Rattle.definition.specs.declared.PinnedState.the-variants.{InUse, Returned}
@@ -29,13 +29,13 @@ unfolding Of.rows
 rows-seen [] = refl
 rows-seen (s ∷ ss) = ap (λ (r : List Of.Slot). seen s ∷ r) (rows-seen ss)
 
-pub view-columns : (p : Pool) → length (p .slots) ≡ 64
+pub view-columns : (p : Pool) → length (p .slots) ≡ most
     → viewOf p ≡ poolOf (p .head) (cellsOf (p .slots)) (timesOf (p .slots)) (seatsOf (p .slots) (p .available)) (p .waiters)
 view-columns p e =
     let ss = p .slots in
-    let a : length (map idOf ss) ≡ 64 = length-map ss idOf ∙ e in
-    let b : length (map codeOf ss) ≡ 64 = length-map ss codeOf ∙ e in
-    rw (take-at (map idOf ss) (map generationOf ss) 64 a, drop-at (map idOf ss) (map generationOf ss) 64 a, take-at (map codeOf ss) (p .available) 64 b, drop-at (map codeOf ss) (p .available) 64 b, rows-seen ss)
+    let a : length (map idOf ss) ≡ most = length-map ss idOf ∙ e in
+    let b : length (map codeOf ss) ≡ most = length-map ss codeOf ∙ e in
+    rw (take-at (map idOf ss) (map generationOf ss) most a, drop-at (map idOf ss) (map generationOf ss) most a, take-at (map codeOf ss) (p .available) most b, drop-at (map codeOf ss) (p .available) most b, rows-seen ss)
 
 -- ── There and back ─────────────────────────────────────────────────────────────────────────────────────────────────────
 
@@ -99,28 +99,28 @@ pub record Apart (slots : List Slot) (available : List ℕ) (r : Parts) : Type 0
 
 -- the first i are taken
 pub record Taking (ss : List Slot) (av : List ℕ) (i : ℕ) (cells times seats : List ℕ) : Type 0 where
-  pub some : i ≤ 64
-  pub cellsLong : length cells ≡ 128
-  pub timesLong : length times ≡ 64
-  pub seatsLong : length seats ≡ 128
+  pub some : i ≤ most
+  pub cellsLong : length cells ≡ 2 * most
+  pub timesLong : length times ≡ most
+  pub seatsLong : length seats ≡ 2 * most
   pub ids : take i cells ≡ take i (map idOf ss)
-  pub generations : take i (drop 64 cells) ≡ take i (map generationOf ss)
+  pub generations : take i (drop most cells) ≡ take i (map generationOf ss)
   pub since : take i times ≡ take i (map timeOf ss)
   pub states : take i seats ≡ take i (map codeOf ss)
-  pub order : take i (drop 64 seats) ≡ take i av
+  pub order : take i (drop most seats) ≡ take i av
 
 one-more : {A : Type 0} (xs c : List A) (d v : A) (i : ℕ) → i < length c → i < length xs → v ≡ getD xs i d → take i c ≡ take i xs → take (i + 1) (set c i v) ≡ take (i + 1) xs
 one-more xs c d v i h k e r = rw (add-one i, take-suc-set c i v h, take-suc xs i d k, e, r)
 
 -- two columns in one array
-module _ (xs ys c : List ℕ) (x y i : ℕ) (low : i < 64) (long : length c ≡ 128) where
-  front-more : i < length xs → x ≡ getD xs i 0 → take i c ≡ take i xs → take (i + 1) (set (set c i x) (64 + i) y) ≡ take (i + 1) xs
-  front-more k e r = front-kept (i + 1) (set c i x) (64 + i) y (omega arith) ∙ one-more xs c 0 x i (omega arith) k e r
+module _ (xs ys c : List ℕ) (x y i : ℕ) (low : i < most) (long : length c ≡ 2 * most) where
+  front-more : i < length xs → x ≡ getD xs i 0 → take i c ≡ take i xs → take (i + 1) (set (set c i x) (most + i) y) ≡ take (i + 1) xs
+  front-more k e r = front-kept (i + 1) (set c i x) (most + i) y (omega arith) ∙ one-more xs c 0 x i (omega arith) k e r
 
-  back-more : i < length ys → y ≡ getD ys i 0 → take i (drop 64 c) ≡ take i ys → take (i + 1) (drop 64 (set (set c i x) (64 + i) y)) ≡ take (i + 1) ys
-  back-more k e r = ap (λ (l : List ℕ). take (i + 1) l) (back-put 64 c i x y low) ∙ one-more ys (drop 64 c) 0 y i (simp length-drop (omega arith)) k e r
+  back-more : i < length ys → y ≡ getD ys i 0 → take i (drop most c) ≡ take i ys → take (i + 1) (drop most (set (set c i x) (most + i) y)) ≡ take (i + 1) ys
+  back-more k e r = ap (λ (l : List ℕ). take (i + 1) l) (back-put most c i x y low) ∙ one-more ys (drop most c) 0 y i (simp length-drop (omega arith)) k e r
 
-  both-long : length (set (set c i x) (64 + i) y) ≡ 128
+  both-long : length (set (set c i x) (most + i) y) ≡ 2 * most
   both-long = simp length-set long
 
 got : (f : Slot → ℕ) (ss : List Slot) (i : ℕ) (d : Slot) → i < length ss → getD (map f ss) i 0 ≡ f (getD ss i d)
@@ -128,9 +128,9 @@ got f [] i d h = absurd (omega arith)
 got f (s ∷ ss) zero d h = refl
 got f (s ∷ ss) (suc i) d h = got f ss i d (omega arith)
 
-pub taking-more : (ss : List Slot) (av : List ℕ) (i : ℕ) (cells times seats : List ℕ) (d s : Slot) (k v : ℕ) → length ss ≡ 64 → length av ≡ 64 → i < 64
+pub taking-more : (ss : List Slot) (av : List ℕ) (i : ℕ) (cells times seats : List ℕ) (d s : Slot) (k v : ℕ) → length ss ≡ most → length av ≡ most → i < most
     → Taking ss av i cells times seats → s ≡ getD ss i d → k ≡ stateNo (s .state) → v ≡ getD av i 0
-    → Taking ss av (i + 1) (set (set cells i (s .id)) (64 + i) (s .generation)) (set times i (s .time)) (set (set seats i k) (64 + i) v)
+    → Taking ss av (i + 1) (set (set cells i (s .id)) (most + i) (s .generation)) (set times i (s .time)) (set (set seats i k) (most + i) v)
 taking-more ss av i cells times seats d s k v ls la low t e ek ev =
     let h : i < length ss = omega arith in
     let a : i < length (map idOf ss) = simp length-map h in
@@ -149,35 +149,35 @@ taking-more ss av i cells times seats d s k v ls la low t e ek ev =
       order = back-more (map codeOf ss) av seats k v i low (t .seatsLong) (omega arith) ev (t .order);
     }
 
-two : (c xs ys : List ℕ) → length c ≡ 128 → length xs ≡ 64 → length ys ≡ 64 → take 64 c ≡ take 64 xs → take 64 (drop 64 c) ≡ take 64 ys → c ≡ xs ++ ys
+two : (c xs ys : List ℕ) → length c ≡ (2 * most) → length xs ≡ most → length ys ≡ most → take most c ≡ take most xs → take most (drop most c) ≡ take most ys → c ≡ xs ++ ys
 two c xs ys l a b p q =
-    let d : length (drop 64 c) ≡ 64 = simp length-drop (omega arith) in
-    let x : take 64 c ≡ xs = p ∙ take-all 64 xs (omega arith) in
-    let y : drop 64 c ≡ ys = sym (take-all 64 (drop 64 c) (omega arith)) ∙ q ∙ take-all 64 ys (omega arith) in
-    sym (take-append-drop 64 c) ∙ rw (x, y)
+    let d : length (drop most c) ≡ most = simp length-drop (omega arith) in
+    let x : take most c ≡ xs = p ∙ take-all most xs (omega arith) in
+    let y : drop most c ≡ ys = sym (take-all most (drop most c) (omega arith)) ∙ q ∙ take-all most ys (omega arith) in
+    sym (take-append-drop most c) ∙ rw (x, y)
 
-pub taking-end : (ss : List Slot) (av : List ℕ) (i : ℕ) (cells times seats : List ℕ) → length ss ≡ 64 → length av ≡ 64 → i ≡ 64
+pub taking-end : (ss : List Slot) (av : List ℕ) (i : ℕ) (cells times seats : List ℕ) → length ss ≡ most → length av ≡ most → i ≡ most
     → Taking ss av i cells times seats → Apart ss av (record { cells = cells; times = times; seats = seats })
 taking-end ss av i cells times seats ls la e t =
-    let u : Taking ss av 64 cells times seats = subst (λ (n : ℕ). Taking ss av n cells times seats) e t in
-    let a : length (map idOf ss) ≡ 64 = length-map ss idOf ∙ ls in
-    let b : length (map generationOf ss) ≡ 64 = length-map ss generationOf ∙ ls in
-    let f : length (map timeOf ss) ≡ 64 = length-map ss timeOf ∙ ls in
-    let g : length (map codeOf ss) ≡ 64 = length-map ss codeOf ∙ ls in
+    let u : Taking ss av most cells times seats = subst (λ (n : ℕ). Taking ss av n cells times seats) e t in
+    let a : length (map idOf ss) ≡ most = length-map ss idOf ∙ ls in
+    let b : length (map generationOf ss) ≡ most = length-map ss generationOf ∙ ls in
+    let f : length (map timeOf ss) ≡ most = length-map ss timeOf ∙ ls in
+    let g : length (map codeOf ss) ≡ most = length-map ss codeOf ∙ ls in
     record {
       cells = two cells (map idOf ss) (map generationOf ss) (u .cellsLong) a b (u .ids) (u .generations);
-      times = sym (take-all 64 times (omega (arith, u .timesLong))) ∙ u .since ∙ take-all 64 (map timeOf ss) (omega arith);
+      times = sym (take-all most times (omega (arith, u .timesLong))) ∙ u .since ∙ take-all most (map timeOf ss) (omega arith);
       seats = two seats (map codeOf ss) av (u .seatsLong) g la (u .states) (u .order);
     }
 
 -- ── Put together, one slot after the other ─────────────────────────────────────────────────────────────────────────────
 
 abbrev pub slotsOf : (cells times seats : List ℕ) → List Slot
-slotsOf cells times seats = together (take 64 cells) (Of.rows (drop 64 cells) times (take 64 seats))
+slotsOf cells times seats = together (take most cells) (Of.rows (drop most cells) times (take most seats))
 
 pub record Again (cells times seats : List ℕ) (r : Table) : Type 0 where
   pub slots : r .slots ≡ slotsOf cells times seats
-  pub available : r .available ≡ drop 64 seats
+  pub available : r .available ≡ drop most seats
 
 together-long : (xs : List ℕ) (ss : List Of.Slot) → length ss ≡ length xs → length (together xs ss) ≡ length xs
 unfolding together
@@ -202,48 +202,48 @@ rows-long (suc n) (g ∷ gs) [] ks a b c = absurd (omega arith)
 rows-long (suc n) (g ∷ gs) (t ∷ ts) [] a b c = absurd (omega arith)
 rows-long (suc n) (g ∷ gs) (t ∷ ts) (k ∷ ks) a b c = ap suc (rows-long n gs ts ks (omega arith) (omega arith) (omega arith))
 
-module _ (cells times seats : List ℕ) (lc : length cells ≡ 128) (lt : length times ≡ 64) (ls : length seats ≡ 128) where
-  front-long : length (take 64 cells) ≡ 64
-  front-long = length-take-le 64 cells (omega arith)
+module _ (cells times seats : List ℕ) (lc : length cells ≡ 2 * most) (lt : length times ≡ most) (ls : length seats ≡ (2 * most)) where
+  front-long : length (take most cells) ≡ most
+  front-long = length-take-le most cells (omega arith)
 
-  rows-64 : length (Of.rows (drop 64 cells) times (take 64 seats)) ≡ 64
-  rows-64 = rows-long 64 (drop 64 cells) times (take 64 seats) (simp length-drop (omega arith)) lt (length-take-le 64 seats (omega arith))
+  rows-most : length (Of.rows (drop most cells) times (take most seats)) ≡ most
+  rows-most = rows-long most (drop most cells) times (take most seats) (simp length-drop (omega arith)) lt (length-take-le most seats (omega arith))
 
-  pub slots-long : length (slotsOf cells times seats) ≡ 64
-  slots-long = together-long (take 64 cells) (Of.rows (drop 64 cells) times (take 64 seats)) (rows-64 ∙ sym front-long) ∙ front-long
+  pub slots-long : length (slotsOf cells times seats) ≡ most
+  slots-long = together-long (take most cells) (Of.rows (drop most cells) times (take most seats)) (rows-most ∙ sym front-long) ∙ front-long
 
-  slots-at : (i : ℕ) (d : Slot) → i < 64 → getD (slotsOf cells times seats) i d ≡ slotOf (getD cells i 0) (getD cells (64 + i) 0) (getD times i 0) (getD seats i 0)
+  slots-at : (i : ℕ) (d : Slot) → i < most → getD (slotsOf cells times seats) i d ≡ slotOf (getD cells i 0) (getD cells (most + i) 0) (getD times i 0) (getD seats i 0)
   slots-at i d low =
-      together-at (take 64 cells) (Of.rows (drop 64 cells) times (take 64 seats)) i d (rows-64 ∙ sym front-long) (omega (arith, front-long))
-      ∙ rw (row-at (drop 64 cells) times (take 64 seats) i (omega (arith, rows-64)), getD-take 64 cells i 0 low, getD-drop 64 cells i 0, getD-take 64 seats i 0 low)
+      together-at (take most cells) (Of.rows (drop most cells) times (take most seats)) i d (rows-most ∙ sym front-long) (omega (arith, front-long))
+      ∙ rw (row-at (drop most cells) times (take most seats) i (omega (arith, rows-most)), getD-take most cells i 0 low, getD-drop most cells i 0, getD-take most seats i 0 low)
 
 -- the first i are made
 pub record Putting (cells times seats : List ℕ) (i : ℕ) (slots : List Slot) (available : List ℕ) : Type 0 where
-  pub some : i ≤ 64
-  pub slotsLong : length slots ≡ 64
-  pub availableLong : length available ≡ 64
+  pub some : i ≤ most
+  pub slotsLong : length slots ≡ most
+  pub availableLong : length available ≡ most
   pub rows : take i slots ≡ take i (slotsOf cells times seats)
-  pub order : take i available ≡ take i (drop 64 seats)
+  pub order : take i available ≡ take i (drop most seats)
 
-pub putting-more : (cells times seats : List ℕ) (i : ℕ) (slots : List Slot) (available : List ℕ) (s : Slot) → length cells ≡ 128 → length times ≡ 64 → length seats ≡ 128 → i < 64
-    → Putting cells times seats i slots available → s ≡ slotOf (getD cells i 0) (getD cells (64 + i) 0) (getD times i 0) (getD seats i 0)
-    → Putting cells times seats (i + 1) (set slots i s) (set available i (getD seats (64 + i) 0))
+pub putting-more : (cells times seats : List ℕ) (i : ℕ) (slots : List Slot) (available : List ℕ) (s : Slot) → length cells ≡ (2 * most) → length times ≡ most → length seats ≡ (2 * most) → i < most
+    → Putting cells times seats i slots available → s ≡ slotOf (getD cells i 0) (getD cells (most + i) 0) (getD times i 0) (getD seats i 0)
+    → Putting cells times seats (i + 1) (set slots i s) (set available i (getD seats (most + i) 0))
 putting-more cells times seats i slots available s lc lt ls low t e =
-    let d : length (drop 64 seats) ≡ 64 = simp length-drop (omega arith) in
+    let d : length (drop most seats) ≡ most = simp length-drop (omega arith) in
     record {
       some = omega arith;
       slotsLong = simp length-set (t .slotsLong);
       availableLong = simp length-set (t .availableLong);
       rows = one-more (slotsOf cells times seats) slots s s i (omega (arith, t .slotsLong)) (omega (arith, slots-long cells times seats lc lt ls)) (e ∙ sym (slots-at cells times seats lc lt ls i s low)) (t .rows);
-      order = one-more (drop 64 seats) available 0 (getD seats (64 + i) 0) i (omega (arith, t .availableLong)) (omega arith) (sym (getD-drop 64 seats i 0)) (t .order);
+      order = one-more (drop most seats) available 0 (getD seats (most + i) 0) i (omega (arith, t .availableLong)) (omega arith) (sym (getD-drop most seats i 0)) (t .order);
     }
 
-pub putting-end : (cells times seats : List ℕ) (i : ℕ) (slots : List Slot) (available : List ℕ) → length cells ≡ 128 → length times ≡ 64 → length seats ≡ 128 → i ≡ 64
+pub putting-end : (cells times seats : List ℕ) (i : ℕ) (slots : List Slot) (available : List ℕ) → length cells ≡ (2 * most) → length times ≡ most → length seats ≡ (2 * most) → i ≡ most
     → Putting cells times seats i slots available → Again cells times seats (record { slots = slots; available = available })
 putting-end cells times seats i slots available lc lt ls e t =
-    let u : Putting cells times seats 64 slots available = subst (λ (n : ℕ). Putting cells times seats n slots available) e t in
-    let d : length (drop 64 seats) ≡ 64 = simp length-drop (omega arith) in
+    let u : Putting cells times seats most slots available = subst (λ (n : ℕ). Putting cells times seats n slots available) e t in
+    let d : length (drop most seats) ≡ most = simp length-drop (omega arith) in
     record {
-      slots = sym (take-all 64 slots (omega (arith, u .slotsLong))) ∙ u .rows ∙ take-all 64 (slotsOf cells times seats) (omega (arith, slots-long cells times seats lc lt ls));
-      available = sym (take-all 64 available (omega (arith, u .availableLong))) ∙ u .order ∙ take-all 64 (drop 64 seats) (omega arith);
+      slots = sym (take-all most slots (omega (arith, u .slotsLong))) ∙ u .rows ∙ take-all most (slotsOf cells times seats) (omega (arith, slots-long cells times seats lc lt ls));
+      available = sym (take-all most available (omega (arith, u .availableLong))) ∙ u .order ∙ take-all most (drop most seats) (omega arith);
     }

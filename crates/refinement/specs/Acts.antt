@@ -7,7 +7,7 @@ use native.Mathlib.Omega.{arith}
 use lib.ListN.{getD, length-append}
 use Rattle.definition.specs.Words.{if_then_else_}
 use Rattle.definition.specs.Pool as P
-use Rattle.definition.specs.Pool.{Pool, Conn, find, stateNo}
+use Rattle.definition.specs.Pool.{most, Pool, Conn, find, stateNo}
 use Rattle.definition.specs.Records.{Record, ConnectionClosed}
 use Rattle.definition.specs.Steps as D
 use Rattle.definition.specs.Steps.{Out, Act, nothing, emit, _>>_}
@@ -92,7 +92,7 @@ lendOut-same i x p m tr is =
     record { records = refl; stands = record { alike = alike-table (tr .alike); table = onto-lent (tr .off) s (P.turned CheckedOut (m .clock) x) refl (is .0) e } }
 
 -- a lent connection, a pending one: it leaves its list
-module _ {p : SlotPool} {m : Pool} (st : Stands p m) (i : ℕ) (low : i < 64) where
+module _ {p : SlotPool} {m : Pool} (st : Stands p m) (i : ℕ) (low : i < most) where
   abbrev n : ℕ
   n = S.idAt p i
 
@@ -127,7 +127,7 @@ module _ {p : SlotPool} {m : Pool} (st : Stands p m) (i : ℕ) (low : i < 64) wh
 
 -- ── Created ────────────────────────────────────────────────────────────────────────────────────────────────────────────
 
-pub vacancy : {p : SlotPool} {m : Pool} → Stands p m → p .total < 64 → place 0 64 (p .ids) < 64
+pub vacancy : {p : SlotPool} {m : Pool} → Stands p m → p .total < most → place 0 most (p .ids) < most
 vacancy {p} st h =
     let l = st .table .kept .longIds in
     rw l at (place-vacant (p .ids) (omega (arith, st .table .holds)))
@@ -148,18 +148,18 @@ used-no : (why : Purpose) → (0 < pendingNo why) × (pendingNo why ≤ 6)
 used-no Request = omega arith
 used-no Background = omega arith
 
-pub create-same : (why : Purpose) (p : SlotPool) (m : Pool) → Stands p m → p .total < 64 → Same (S.createPendingConnection (pendingNo why) p) (D.createPendingConnection why m)
+pub create-same : (why : Purpose) (p : SlotPool) (m : Pool) → Stands p m → p .total < most → Same (S.createPendingConnection (pendingNo why) p) (D.createPendingConnection why m)
 unfolding S.createPendingConnection D.createPendingConnection _>>_
 create-same why p m st h =
-    let low : place 0 64 (p .ids) < 64 = vacancy st h in
+    let low : place 0 most (p .ids) < most = vacancy st h in
     let tb = st .table in
     let k = tb .kept in
-    let i = place 0 64 (p .ids) in
+    let i = place 0 most (p .ids) in
     let n = p .nextId in
     let s : Slot = record { generation = p .generation; time = p .clock; state = pendingNo why } in
     let x : Conn = record { id = m .nextId; generation = m .generation; time = m .clock; state = Pending why } in
     let e : cell x ≡ s = rw (st .alike .generation, st .alike .clock) in
-    let z : getD (p .ids) i 0 ≡ 0 = place-found (λ v. v) 0 64 (p .ids) low in
+    let z : getD (p .ids) i 0 ≡ 0 = place-found (λ v. v) 0 most (p .ids) low in
     let b : getD (p .slots) i vacant ≡ vacant = k .blank i z in
     let b0 : getD (p .slots) i vacant .state ≡ 0 = ap (λ (y : Slot). y .state) b in
     let fr : Fresh (p .ids) i n = λ j a q e. absurd (omega (arith, k .below j, e)) in

@@ -3,7 +3,7 @@ use mathlib.Core.Path.{_≡_, refl, subst}
 use mathlib.Core.Bool.{true, false}
 use Prim.Native.Nat.{ℕ, _/_, _%_, _<_}
 use lib.ListN.{getD}
-use Rattle.definition.specs.Pool.{Pool, queueLength}
+use Rattle.definition.specs.Pool.{most, Pool, queueLength}
 use Rattle.definition.specs.Steps as D
 use Rattle.definition.specs.Steps.{Out}
 use Rattle.definition.specs.declared.Event.{Event}
@@ -22,7 +22,7 @@ use Rattle.refinement.specs.Service.{service-same}
 
 -- slot i holds the connection n, in a state of the class
 pub record Holds (t : Class) (n : ℕ) (p : SlotPool) (i : ℕ) : Type 0 where
-  pub slot : i < 64
+  pub slot : i < most
   pub id : S.idAt p i ≡ n
   pub state : t (S.slotAt p i .state) ≡ true
 

@@ -2,11 +2,11 @@
 use mathlib.Core.Path.{_≡_, refl, ap}
 use mathlib.Core.Bool.{Bool, true, false}
 use mathlib.Core.List.{List}
-use Prim.Native.Nat.{ℕ, zero, suc, _+_, _≤_}
+use Prim.Native.Nat.{ℕ, zero, suc, _+_, _≤_, _*_}
 use native.Mathlib.Omega.{arith}
 use lib.ListN.{length, length-append, length-map, length-take}
 use Rattle.definition.specs.Words.{if_then_else_}
-use Rattle.definition.specs.Pool.{Pool}
+use Rattle.definition.specs.Pool.{queueLength, most, Pool}
 use Rattle.definition.specs.Records.{Record, Reply, Gone}
 use Rattle.definition.specs.Steps.{Out, Act, emit, become, _>>_}
 use Rattle.definition.specs.Refusals.{enoughRoom}
@@ -163,19 +163,19 @@ clear-few timeout cause p =
     (few-then 1 (1 + p .waitings + 0) (S.interrupted timeout) _ p (i .0) (few-then (1 + p .waitings) 0 (S.clearedReady timeout cause) (S.mode _ _) _ c (mode-few _ _ _)))
 
 module _ {p : SlotPool} {m : Pool} (st : Stands p m) where
-  pub maintenance-few : Few 128 (S.maintenance p)
+  pub maintenance-few : Few (2 * most) (S.maintenance p)
   unfolding S.maintenance S.removePerished S.ensureMinConnections
   maintenance-few =
       let q = removePerished-same p m st .stands in
-      few-then 64 64 S.removePerished S.ensureMinConnections p (few-more (p .availables) 64 (st .table .fits) (prune-few (p .availables) p))
-      (few-if _ _ _ _ (few-more _ 64 (omega (arith, q .alike .limits)) (fillUp-few _ _)) (few-said 64 _ (omega arith)))
+      few-then most most S.removePerished S.ensureMinConnections p (few-more (p .availables) most (st .table .fits) (prune-few (p .availables) p))
+      (few-if _ _ _ _ (few-more _ most (omega (arith, q .alike .limits)) (fillUp-few _ _)) (few-said most _ (omega arith)))
 
   pub shut-few : Few 321 (S.shut p)
   unfolding S.shut
   shut-few =
       let q = closeFront-same (p .availables) (m .available) p m st refl refl .stands in
-      few-then 64 257 (S.closeFront (p .availables)) _ p (few-more (p .availables) 64 (st .table .fits) (closeFront-few (p .availables) p))
-      (few-then 256 1 (S.tellAll Gone) _ _ (few-more _ 256 (q .alike .queue .fits) (tellAll-few Gone _))
+      few-then most 257 (S.closeFront (p .availables)) _ p (few-more (p .availables) most (st .table .fits) (closeFront-few (p .availables) p))
+      (few-then queueLength 1 (S.tellAll Gone) _ _ (few-more _ queueLength (q .alike .queue .fits) (tellAll-few Gone _))
       (few-then 1 0 (emit _) (S.mode _ _) _ (few-said 1 _ (omega arith)) (mode-few _ _ _)))
 
   pub own-few : (e : Event) (i : ℕ) → Few 321 (S.own e i p)

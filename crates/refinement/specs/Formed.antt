@@ -4,12 +4,12 @@ use mathlib.Core.Path.{_≡_, refl, ap, sym, subst, _∙_}
 use mathlib.Core.Bool.{Bool, true, false, true≢false, false≢true, not, _&&_, _||_}
 use mathlib.Core.List.{List, [], _∷_, map}
 use mathlib.Core.Option.{Option, none, some}
-use Prim.Native.Nat.{ℕ, zero, suc, _+_, _≤_}
+use Prim.Native.Nat.{ℕ, zero, suc, _+_, _≤_, _*_}
 use native.Mathlib.Omega.{arith}
 use lib.ListN.{length, getD, replicate, length-replicate, length-append}
 use borrow.Author.Tests.{ltb-false, leb-true}
 use Rattle.definition.specs.Words.{if_then_else_, _<?_, _≤?_, _=?_}
-use Rattle.definition.specs.Pool.{Pool, fresh, inRange, most, isClosed}
+use Rattle.definition.specs.Pool.{queueLength, Pool, fresh, inRange, most, isClosed}
 use Rattle.definition.specs.Steps.{_>>_, kindNo}
 use Rattle.definition.specs.Refusals as R
 use Rattle.definition.specs.Refusals.{first, enoughRoom, lastNextId, takenAfterClose, after, run}
@@ -54,10 +54,10 @@ freshSlots o = record {
   pendings = 0;
   availables = 0;
   waitings = 0;
-  ids = replicate 64 0;
-  slots = replicate 64 vacant;
-  available = replicate 64 0;
-  waiters = replicate 256 0;
+  ids = replicate most 0;
+  slots = replicate most vacant;
+  available = replicate most 0;
+  waiters = replicate queueLength 0;
 }
 
 -- the parts of a made pool make it
@@ -75,7 +75,11 @@ freshHead o = record {
   «waiting_count» = 0;
 }
 
-pub fresh-parts : (o : Options) → poolOf (freshHead o) (replicate 128 0) (replicate 64 0) (replicate 128 0) (replicate 256 0) ≡ freshSlots o
+-- a head over columns all of 0
+abbrev pub overBlank : Head → SlotPool
+overBlank h = poolOf h (replicate (2 * most) 0) (replicate most 0) (replicate (2 * most) 0) (replicate queueLength 0)
+
+pub fresh-parts : (o : Options) → overBlank (freshHead o) ≡ freshSlots o
 unfolding rows
 fresh-parts o = refl
 
@@ -118,28 +122,28 @@ fresh-stands o h = record {
     lastRequest = refl;
     serial = refl;
     limits = limits-of o h;
-    queue = record { room = length-replicate {A = ℕ} 256 0; fits = omega arith; waits = refl; rest = λ j a. zeros 256 j; rises = tt };
+    queue = record { room = length-replicate {A = ℕ} queueLength 0; fits = omega arith; waits = refl; rest = λ j a. zeros queueLength j; rises = tt };
   };
   table = record {
     kept = record {
-      longIds = length-replicate {A = ℕ} 64 0;
-      longSlots = length-replicate 64 vacant;
-      unique = λ i j a b z e. absurd (omega (arith, zeros 64 i));
-      below = λ j. omega (arith, zeros 64 j);
-      blank = λ j e. vacants 64 j;
-      used = λ j z. absurd (omega (arith, zeros 64 j));
+      longIds = length-replicate {A = ℕ} most 0;
+      longSlots = length-replicate most vacant;
+      unique = λ i j a b z e. absurd (omega (arith, zeros most i));
+      below = λ j. omega (arith, zeros most j);
+      blank = λ j e. vacants most j;
+      used = λ j z. absurd (omega (arith, zeros most j));
       listed = tt;
       distinct = tt;
       available = refl;
-      lent = nobody isLent 64 (replicate 64 vacant);
-      pending = nobody isPending 64 (replicate 64 vacant);
+      lent = nobody isLent most (replicate most vacant);
+      pending = nobody isPending most (replicate most vacant);
     };
-    room = length-replicate {A = ℕ} 64 0;
+    room = length-replicate {A = ℕ} most 0;
     fits = omega arith;
-    rest = λ j a. zeros 64 j;
+    rest = λ j a. zeros most j;
     total = refl;
     pendings = refl;
-    holds = sym (untaken 64);
+    holds = sym (untaken most);
   };
 }
 

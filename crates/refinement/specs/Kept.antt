@@ -8,7 +8,7 @@ use native.Mathlib.Omega.{arith}
 use lib.ListN.{length, getD, set, length-set}
 use lib.Seq.{getD-set-same, getD-set-other}
 use Rattle.definition.specs.Words.{_∷ʳ_}
-use Rattle.definition.specs.Pool.{Conn, without}
+use Rattle.definition.specs.Pool.{most, Conn, without}
 use Rattle.definition.specs.Steps.{_to_holds_}
 use Rattle.definition.specs.declared.ConnectionState.the-variants.{CheckedIn}
 use Rattle.slots.specs.View.{Slot}
@@ -85,7 +85,7 @@ view-put xs ss i v s (e ∷ o) a = rw (getD-set-other xs i e v 0 (a .0), getD-se
 
 -- a slot of the order list: it holds a checked-in connection
 abbrev pub Listed : List ℕ → List Slot → ℕ → Type 0
-Listed xs ss e = (e < 64) × (0 < getD xs e 0) × (getD ss e vacant .state ≡ 1)
+Listed xs ss e = (e < most) × (0 < getD xs e 0) × (getD ss e vacant .state ≡ 1)
 
 listed-put : (xs : List ℕ) (ss : List Slot) (i v : ℕ) (s : Slot) (e : ℕ) → e ≢ i → Listed xs ss e → Listed (set xs i v) (set ss i s) e
 listed-put xs ss i v s e n h = rw (getD-set-other xs i e v 0 n, getD-set-other ss i e s vacant n) h
@@ -96,8 +96,8 @@ Used s = (0 < s .state) × (s .state ≤ 6)
 
 -- ids xs beside slots ss, the order list o, and the available, lent and pending connections
 pub record Kept (xs : List ℕ) (ss : List Slot) (o : List ℕ) (next : ℕ) (av le pe : List Conn) : Type 0 where
-  pub longIds : length xs ≡ 64
-  pub longSlots : length ss ≡ 64
+  pub longIds : length xs ≡ most
+  pub longSlots : length ss ≡ most
   pub unique : Unique xs
   pub below : (j : ℕ) → getD xs j 0 < next
   pub blank : (j : ℕ) → getD xs j 0 ≡ 0 → getD ss j vacant ≡ vacant
@@ -108,7 +108,7 @@ pub record Kept (xs : List ℕ) (ss : List Slot) (o : List ℕ) (next : ℕ) (av
   pub lent : Agrees isLent xs ss le
   pub pending : Agrees isPending xs ss pe
 
-module _ {xs : List ℕ} {ss : List Slot} {o : List ℕ} {next : ℕ} {av le pe : List Conn} (k : Kept xs ss o next av le pe) (i : ℕ) (low : i < 64) where
+module _ {xs : List ℕ} {ss : List Slot} {o : List ℕ} {next : ℕ} {av le pe : List Conn} (k : Kept xs ss o next av le pe) (i : ℕ) (low : i < most) where
   pub inIds : i < length xs
   inIds = omega (arith, k .longIds)
 

@@ -7,7 +7,7 @@ use lib.ListN.{length, getD, take}
 use lib.Seq.{getD-take, length-take-le}
 use borrow.Author.Tests.{eqb-false}
 use Rattle.definition.specs.Words.{if_then_else_, _<?_, _=?_}
-use Rattle.definition.specs.Pool.{Pool, withWaiting, isClosed}
+use Rattle.definition.specs.Pool.{queueLength, most, Pool, withWaiting, isClosed}
 use Rattle.definition.specs.Steps.{serviced, nothing, _>>_}
 use Rattle.definition.specs.Refusals.{lastNextId}
 use Rattle.definition.specs.declared.Event.{Event}
@@ -35,7 +35,7 @@ module _ {p : SlotPool} {m : Pool} (st : Stands p m) where
   whole = record { ids = st .table .kept .longIds; slots = st .table .kept .longSlots; available = st .table .room; waiters = st .alike .queue .room }
 
   -- every cell of the order list is a slot: the listed ones are, and the others are 0
-  pub listed-below : (j : ℕ) → getD (p .available) j 0 < 64
+  pub listed-below : (j : ℕ) → getD (p .available) j 0 < most
   listed-below j =
       let n = p .availables in
       by-lt j n
@@ -44,13 +44,13 @@ module _ {p : SlotPool} {m : Pool} (st : Stands p m) where
       (λ h. omega (arith, st .table .rest j h))
 
   -- all that is counted fits: there are 64 slots
-  counts : (p .availables + p .pendings ≤ p .total) × (p .total ≤ 64)
+  counts : (p .availables + p .pendings ≤ p .total) × (p .total ≤ most)
   counts = (omega (arith, counted (st .table), st .table .total, st .table .pendings), at-most (st .table))
 
   pub can-prune : CanPrune p
   can-prune = record { counts = omega (arith, counts .0); fits = st .table .fits; listed = listed-below }
 
-  pub can-create : p .total < 64 → p .nextId < 4294967295 → CanCreate p
+  pub can-create : p .total < most → p .nextId < 4294967295 → CanCreate p
   can-create h n = record { spot = vacancy st h; ids = n; total = omega arith; pending = omega (arith, counts .0) }
 
   pub can-fill : p .nextId ≤ lastNextId → CanFill p
@@ -65,7 +65,7 @@ module _ {p : SlotPool} {m : Pool} (st : Stands p m) where
   pub can-tell : CanTell p
   can-tell = record { fits = st .alike .queue .fits }
 
-  pub can-queue : p .waitings < 256 → CanQueue p
+  pub can-queue : p .waitings < queueLength → CanQueue p
   can-queue h = record { spot = h }
 
   pub can-clear : p .generation < 4294967295 → CanClear p
@@ -96,7 +96,7 @@ module _ {p : SlotPool} {m : Pool} (st : Stands p m) where
   pub can-warm : CanWarm p
   can-warm = record { spot = λ h. vacancy st (omega (arith, st .alike .limits)) }
 
-  pub can-take : (p .availables ≡ 0 → p .total < 64) → p .nextId < 4294967295 → CanTake p
+  pub can-take : (p .availables ≡ 0 → p .total < most) → p .nextId < 4294967295 → CanTake p
   can-take z n = record { prune = can-prune; spot = λ e. vacancy st (z e); ids = n; total = omega (arith, counts .1); pending = omega (arith, counts) }
 
   pub can-serve : p .nextId < 4294967295 → CanServe p

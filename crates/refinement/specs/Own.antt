@@ -7,7 +7,7 @@ use native.Mathlib.Omega.{arith}
 use lib.ListN.{length, getD}
 use Rattle.definition.specs.Words.{if_then_else_}
 use Rattle.definition.specs.Pool as P
-use Rattle.definition.specs.Pool.{Pool, Waiter, isReady, isClosed, staleIn, find}
+use Rattle.definition.specs.Pool.{queueLength, most, Pool, Waiter, isReady, isClosed, staleIn, find}
 use Rattle.definition.specs.Records.{ConnectionReady, ConnectionCheckedIn, PoolReady, PoolCleared, Interrupt, Reply, Cleared, told}
 use Rattle.definition.specs.Steps as D
 use Rattle.definition.specs.Steps.{nothing, emit, become, _>>_}
@@ -44,7 +44,7 @@ tellAll-same r p m st = record {
   stands = record { alike = alike-queue (st .alike) (queue-emptied (st .alike .queue)); table = st .table };
 }
 
-pub request-same : (n : ℕ) (warm : Bool) (p : SlotPool) (m : Pool) → Stands p m → p .lastRequest < n → p .waitings < 256 → Same (S.request n warm p) (D.request n warm m)
+pub request-same : (n : ℕ) (warm : Bool) (p : SlotPool) (m : Pool) → Stands p m → p .lastRequest < n → p .waitings < queueLength → Same (S.request n warm p) (D.request n warm m)
 unfolding S.request D.request S.queue D.queue _>>_
 request-same n warm p m st h g =
     subst (λ (s : PoolState). Same ((become (S.withLastRequest p n) >> S.queue n warm (p .state)) p) ((become (P.withLastRequest m n) >> D.queue n warm s) m)) (st .alike .state) (go (p .state))
@@ -94,7 +94,7 @@ markAsReady-same p m st =
 
 -- ── One connection ─────────────────────────────────────────────────────────────────────────────────────────────────────
 
-module _ (i : ℕ) (p : SlotPool) (m : Pool) (st : Stands p m) (low : i < 64) where
+module _ (i : ℕ) (p : SlotPool) (m : Pool) (st : Stands p m) (low : i < most) where
   abbrev n : ℕ
   n = S.idAt p i
 

@@ -10,7 +10,7 @@ use lib.ListN.{length, getD, set, take, drop, length-set, length-map}
 use lib.Seq.{getD-set-other, take-suc-set, take-set-lt, length-take-le, getD-take}
 use borrow.Author.Tests.{eq-eqb, ne-eqb, lt-ltb, le-ltb, le-leb, lt-leb}
 use Rattle.definition.specs.Words.{if_then_else_, _<?_, _≤?_, _=?_, _∷ʳ_, any?}
-use Rattle.definition.specs.Pool.{Waiter}
+use Rattle.definition.specs.Pool.{queueLength, Waiter}
 use Rattle.definition.specs.Events.{bit}
 use Rattle.slots.specs.Order.{placeOf, shifted}
 use Rattle.slots.specs.OrderLaws.{length-shifted, place-found}
@@ -124,7 +124,7 @@ module _ {cells : List ℕ} {n last : ℕ} {waiting : List Waiter} (q : Queue ce
     rises = tt;
   }
 
-  pub queue-joined : (r : ℕ) (warm : Bool) → n < 256 → last < r → Queue (set cells n (4 * r + bit 1 warm)) (n + 1) r (waiting ∷ʳ record { id = r; warm = warm; abandoned = false })
+  pub queue-joined : (r : ℕ) (warm : Bool) → n < queueLength → last < r → Queue (set cells n (4 * r + bit 1 warm)) (n + 1) r (waiting ∷ʳ record { id = r; warm = warm; abandoned = false })
   queue-joined r warm h g = record {
     room = rw length-set (q .room);
     fits = omega arith;

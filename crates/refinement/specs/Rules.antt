@@ -10,7 +10,7 @@ use lib.ListN.{length, getD, take, length-map}
 use lib.Seq.{length-take-le}
 use borrow.Author.Tests.{eq-eqb, ne-eqb}
 use Rattle.definition.specs.Words.{if_then_else_, _=?_}
-use Rattle.definition.specs.Pool.{Pool, Conn, without, stateNo}
+use Rattle.definition.specs.Pool.{queueLength, most, Pool, Conn, without, stateNo}
 use Rattle.definition.specs.Refusals.{lastNextId}
 use Rattle.definition.specs.declared.ConnectionState.{ConnectionState}
 use Rattle.definition.specs.declared.ConnectionState.the-variants.{Vacant, CheckedIn, CheckedOut, Pinned, Pending}
@@ -198,14 +198,14 @@ pub record Rules (p : SlotPool) : Type 0 where
   pub below : (j : ℕ) → S.idAt p j < p .nextId
   pub blank : (j : ℕ) → S.idAt p j ≡ 0 → S.slotAt p j ≡ vacant
   pub used : (j : ℕ) → 0 < S.idAt p j → Used (S.slotAt p j)
-  pub fits : p .availables ≤ 64
+  pub fits : p .availables ≤ most
   pub listed : All (Listed (p .ids) (p .slots)) (take (p .availables) (p .available))
   pub distinct : Distinct (take (p .availables) (p .available))
   pub rest : (j : ℕ) → p .availables ≤ j → getD (p .available) j 0 ≡ 0
   pub shelved : p .availables ≡ many isShelved (p .ids) (p .slots)
   pub pending : p .pendings ≡ many isPending (p .ids) (p .slots)
   pub total : p .total ≡ taken (p .ids)
-  pub queue : p .waitings ≤ 256
+  pub queue : p .waitings ≤ queueLength
   pub queueRest : (j : ℕ) → p .waitings ≤ j → getD (p .waiters) j 0 ≡ 0
   pub rises : Rises 0 (p .lastRequest) (S.waitersOf p)
   pub serial : p .serial < 4294967296

@@ -47,8 +47,8 @@ pub record Alike (p : SlotPool) (m : Pool) : Type 0 where
 -- the connections: the first n cells of `order` list the available ones; t counts all, c the pending
 pub record Table (xs : List ℕ) (ss : List Slot) (order : List ℕ) (n t c next : ℕ) (av le pe : List Conn) : Type 0 where
   pub kept : Kept xs ss (take n order) next av le pe
-  pub room : length order ≡ 64
-  pub fits : n ≤ 64
+  pub room : length order ≡ most
+  pub fits : n ≤ most
   pub rest : (j : ℕ) → n ≤ j → getD order j 0 ≡ 0
   pub total : t ≡ length av + length le + length pe
   pub pendings : c ≡ length pe

@@ -9,7 +9,7 @@ use lib.ListN.{length, List·getD-eq-default}
 use borrow.Author.Tests.{eqb-true, ne-eqb, leb-false, ltb-true, ltb-false, not-false}
 use Rattle.definition.specs.Words.{if_then_else_, _<?_, _≤?_, _=?_}
 use Rattle.definition.specs.Pool as P
-use Rattle.definition.specs.Pool.{Pool, Conn, isClosed, has, hasIn, find, stateNo}
+use Rattle.definition.specs.Pool.{queueLength, most, Pool, Conn, isClosed, has, hasIn, find, stateNo}
 use Rattle.definition.specs.Steps.{kindNo, _to_holds_}
 use Rattle.definition.specs.Refusals as R
 use Rattle.definition.specs.Refusals.{Test, _if_, first, wrongTime, takenAfterClose, lastNextId, lastGeneration}
@@ -58,11 +58,11 @@ module _ {p : SlotPool} {m : Pool} (st : Stands p m) (n : ℕ) (t : Class) (neve
 
   -- found in a state of the class
   pub found : t (stateOf p n) ≡ true → Holds t n p i
-  found h = record { slot = low; id = place-found (λ v. v) n 64 (p .ids) low; state = h }
+  found h = record { slot = low; id = place-found (λ v. v) n most (p .ids) low; state = h }
     where
-      low : i < 64
+      low : i < most
       low =
-          by-lt i 64 (λ g. g)
+          by-lt i most (λ g. g)
           (λ g. absurd (false≢true (sym never ∙ ap (λ (x : Slot). t (x .state)) (sym (List·getD-eq-default (p .slots) vacant (omega (arith, st .table .kept .longSlots)))) ∙ h)))
 
   pub there : t (stateOf p n) ≡ true → (has n l ≡ true) × (cell (find n l) ≡ S.slotAt p i)
@@ -74,9 +74,9 @@ module _ {p : SlotPool} {m : Pool} (st : Stands p m) (n : ℕ) (t : Class) (neve
   absent h = has-not n l (by-eq n 0
       (λ e. ap (λ (x : ℕ). lookup x l) e ∙ a .named)
       (λ d. let z : 0 < n = omega (arith, d) in
-      sym (a .finds n z) ∙ by-lt i 64
-      (λ g. ap (only t) (look-at n i (p .ids) (p .slots) (lengths (st .table .kept) i g) (st .table .kept .unique) (inIds (st .table .kept) i g) z (place-found (λ v. v) n 64 (p .ids) g)) ∙ only-out t (S.slotAt p i) h)
-      (λ g. ap (only t) (look-none n (p .ids) (p .slots) (λ j k. place-not (λ v. v) n 64 (p .ids) g j (omega (arith, st .table .kept .longIds)))) ∙ only-none t)))
+      sym (a .finds n z) ∙ by-lt i most
+      (λ g. ap (only t) (look-at n i (p .ids) (p .slots) (lengths (st .table .kept) i g) (st .table .kept .unique) (inIds (st .table .kept) i g) z (place-found (λ v. v) n most (p .ids) g)) ∙ only-out t (S.slotAt p i) h)
+      (λ g. ap (only t) (look-none n (p .ids) (p .slots) (λ j k. place-not (λ v. v) n most (p .ids) g j (omega (arith, st .table .kept .longIds)))) ∙ only-none t)))
 
   pub has-same : t (stateOf p n) ≡ has n l
   has-same = by-bool (t (stateOf p n)) (λ h. h ∙ sym (there h .0)) (λ h. h ∙ sym (absent h))
@@ -122,7 +122,7 @@ module _ {p : SlotPool} {m : Pool} (st : Stands p m) where
   request-tests : (n : ℕ) → first (C.requestTests p n) ≡ first (R.requestTests m n)
   request-tests n =
       first-same OldRequest (n ≤? p .lastRequest) (n ≤? m .lastRequest) _ _ (ap (λ (x : ℕ). n ≤? x) (st .alike .lastRequest))
-      (λ _. first-same QueueFull (256 ≤? p .waitings) (256 ≤? length (m .waiting)) [] [] (ap (λ (x : ℕ). 256 ≤? x) (sym (waiters-counted (st .alike .queue)))) (λ _. refl))
+      (λ _. first-same QueueFull (queueLength ≤? p .waitings) (queueLength ≤? length (m .waiting)) [] [] (ap (λ (x : ℕ). queueLength ≤? x) (sym (waiters-counted (st .alike .queue)))) (λ _. refl))
 
   -- one test of a state
   state-test : (b b' : Bool) → b ≡ b' → first ((WrongState if not b) ∷ []) ≡ first ((WrongState if not b') ∷ [])
@@ -187,8 +187,8 @@ pub record Passed (p : SlotPool) (e : Event) (now : ℕ) : Type 0 where
 pub new-fit : (p : SlotPool) (n : ℕ) → first (C.requestTests p n) ≡ none → New n p
 new-fit p n h =
     let a = passed OldRequest (n ≤? p .lastRequest) _ h in
-    let b = passed QueueFull (256 ≤? p .waitings) [] (a .1) in
-    record { later = leb-false n (p .lastRequest) (a .0); room = leb-false 256 (p .waitings) (b .0) }
+    let b = passed QueueFull (queueLength ≤? p .waitings) [] (a .1) in
+    record { later = leb-false n (p .lastRequest) (a .0); room = leb-false queueLength (p .waitings) (b .0) }
 
 module _ {p : SlotPool} {m : Pool} (st : Stands p m) where
   lent-fit : (n : ℕ) → isLent (stateOf p n) ≡ true → Holds isLent n p (slotOf p n)

@@ -11,7 +11,7 @@ use native.Mathlib.Omega.{arith}
 use lib.ListN.{length, getD, set, take, drop, length-set, length-append, length-map}
 use lib.Seq.{getD-set-same, getD-set-other, set-getD, set-set, take-suc, take-suc-set, take-set-le, length-take-le}
 use Rattle.definition.specs.Words.{_∷ʳ_}
-use Rattle.definition.specs.Pool.{Conn, without, turn, stateNo}
+use Rattle.definition.specs.Pool.{most, Conn, without, turn, stateNo}
 use Rattle.definition.specs.declared.ConnectionState.{ConnectionState}
 use Rattle.definition.specs.declared.ConnectionState.the-variants.{CheckedIn}
 use Rattle.slots.specs.Order.{shifted}
@@ -30,29 +30,29 @@ pub record Off (xs : List ℕ) (ss : List Slot) (order : List ℕ) (n t c next :
   pub mid : Slot
   pub checked : mid .state ≡ 1
   pub kept : Kept xs (set ss i mid) (take n order) next av le pe
-  pub low : i < 64
+  pub low : i < most
   pub held : 0 < getD xs i 0
   pub away : All (λ e. e ≢ i) (take n order)
-  pub room : length order ≡ 64
-  pub fits : n ≤ 64
+  pub room : length order ≡ most
+  pub fits : n ≤ most
   pub rest : (j : ℕ) → n ≤ j → getD order j 0 ≡ 0
   pub total : t ≡ suc (length av + length le + length pe)
   pub pendings : c ≡ length pe
   pub holds : t ≡ taken xs
 
 -- as many are available as are counted
-view-length : (xs : List ℕ) (ss : List Slot) (order : List ℕ) (n : ℕ) (av : List Conn) → view xs ss (take n order) ≡ av → length order ≡ 64 → n ≤ 64 → length av ≡ n
+view-length : (xs : List ℕ) (ss : List Slot) (order : List ℕ) (n : ℕ) (av : List Conn) → view xs ss (take n order) ≡ av → length order ≡ most → n ≤ most → length av ≡ n
 view-length xs ss order n av e r f = ap length (sym e) ∙ simp length-map (length-take-le n order (omega arith))
 
 module _ {xs : List ℕ} {ss : List Slot} {order : List ℕ} {n t c next : ℕ} {av le pe : List Conn} (tb : Table xs ss order n t c next av le pe) where
   pub counted : length av ≡ n
   counted = view-length xs ss order n av (tb .kept .available) (tb .room) (tb .fits)
 
-  pub at-most : t ≤ 64
+  pub at-most : t ≤ most
   at-most = omega (arith, tb .holds, taken-at-most xs, tb .kept .longIds)
 
   -- slot i holds a connection of a class that has no vacant slot
-  module _ (i : ℕ) (low : i < 64) (k : Class) (never : k 0 ≡ false) (h : k (getD ss i vacant .state) ≡ true) where
+  module _ (i : ℕ) (low : i < most) (k : Class) (never : k 0 ≡ false) (h : k (getD ss i vacant .state) ≡ true) where
     pub held : 0 < getD xs i 0
     held =
         by-eq (getD xs i 0) 0
@@ -67,7 +67,7 @@ module _ {xs : List ℕ} {ss : List Slot} {order : List ℕ} {n t c next : ℕ} 
 
   -- ── Away from a list ───────────────────────────────────────────────────────────────────────────────────────────────────
 
-  module _ (i : ℕ) (low : i < 64) where
+  module _ (i : ℕ) (low : i < most) where
     abbrev shut : Slot
     shut = turned 1 0 (getD ss i vacant)
 
@@ -234,7 +234,7 @@ module _ {xs : List ℕ} {ss : List Slot} {order : List ℕ} {n t c next : ℕ} 
   not-pending : isPending (getD (set ss i (off .mid)) i vacant .state) ≡ false
   not-pending = rw midst (holds-below 5 6 (off .mid .state) (omega (arith, off .checked)))
 
-  pub roomy : n < 64
+  pub roomy : n < most
   roomy = omega (arith, view-length xs (set ss i (off .mid)) order n av (off .kept .available) (off .room) (off .fits), off .total, off .holds, taken-at-most xs, off .kept .longIds)
 
   pub onto-nothing : Table (set xs i 0) (set ss i vacant) order n (t - 1) c next av le pe

@@ -6,7 +6,7 @@ use mathlib.Core.Option.{Option, none, some}
 use Prim.Native.Nat.{ℕ, _+_, _*_, _%_, _≤_, _<_}
 use native.Mathlib.Omega.{arith}
 use borrow.Author.Tests.{lt-ltb, le-ltb, lt-leb, le-leb}
-use lib.ListN.{length, drop, replicate}
+use lib.ListN.{length, drop}
 use Rattle.definition.specs.Words.{if_then_else_, _≤?_}
 use Rattle.definition.specs.Pool.{withDefaults, inRange}
 use Rattle.definition.specs.Records.{fields}
@@ -17,12 +17,12 @@ use Rattle.definition.specs.declared.Options.{Options}
 use Rattle.definition.specs.declared.Frame.{Frame}
 use Rattle.definition.specs.declared.Refusal.{Refusal}
 use Rattle.definition.specs.declared.Refusal.the-variants.{Malformed, OptionsOutOfRange}
-use Rattle.slots.specs.View.{SlotPool, poolOf}
+use Rattle.slots.specs.View.{SlotPool}
 use Rattle.slots.specs.Call.{World, world, call}
 use Rattle.slots.specs.declared.Outcome.{Outcome}
 use Rattle.slots.specs.declared.Outcome.the-variants.{Refused, Accepted}
 use Rattle.refinement.specs.Stands.{Formed}
-use Rattle.refinement.specs.Formed.{freshHead, freshSlots, fresh-parts, fresh-formed, call-formed}
+use Rattle.refinement.specs.Formed.{freshHead, overBlank, freshSlots, fresh-parts, fresh-formed, call-formed}
 use Rattle.text.specs.Printed.{printed, length-printed, length-lineOf}
 use Rattle.replay.specs.declared.Phase.{Phase}
 use Rattle.replay.specs.declared.Phase.the-variants.{First, Going, Ended}
@@ -72,13 +72,13 @@ module _ (r : Pace) (p : SlotPool) (x : Option Options) (b a : List ℕ) where
       }
 
   pub opens-made : (o : Options) → x ≡ some o → true ≡ inRange (withDefaults o)
-      → Opens r p x b b (goingPace r) (poolOf (freshHead (withDefaults o)) (replicate 128 0) (replicate 64 0) (replicate 128 0) (replicate 256 0)) 0
+      → Opens r p x b b (goingPace r) (overBlank (freshHead (withDefaults o))) 0
   unfolding if_then_else_
   opens-made o e g =
       let q = withDefaults o in
       record {
-        lined = λ l. subst (λ (y : Option Options). Lined (options (playOf r p l) y) b b (playOf (goingPace r) (poolOf (freshHead q) (replicate 128 0) (replicate 64 0) (replicate 128 0) (replicate 256 0)) l) 0) (sym e)
-            (subst (λ (t : Bool). Lined (if t then ready (playOf r p l) q else badly (playOf r p l) OptionsOutOfRange) b b (playOf (goingPace r) (poolOf (freshHead q) (replicate 128 0) (replicate 64 0) (replicate 128 0) (replicate 256 0)) l) 0) g
+        lined = λ l. subst (λ (y : Option Options). Lined (options (playOf r p l) y) b b (playOf (goingPace r) (overBlank (freshHead q)) l) 0) (sym e)
+            (subst (λ (t : Bool). Lined (if t then ready (playOf r p l) q else badly (playOf r p l) OptionsOutOfRange) b b (playOf (goingPace r) (overBlank (freshHead q)) l) 0) g
             (subst (λ (z : SlotPool). Lined (ready (playOf r p l) q) b b (playOf (goingPace r) z l) 0) (sym (fresh-parts q))
             (lined-quiet (playOf (goingPace r) (freshSlots q) l) b (fresh-formed q (sym g)))));
       }

@@ -9,6 +9,7 @@ use lib.ListN.{length, getD, set, replicate}
 use lib.Seq.{getD-set-same, getD-set-other}
 use lib.Dec.{eqb}
 use borrow.Author.Tests.{lt-ltb, le-ltb, le-leb, eq-eqb, ne-eqb}
+use Rattle.definition.specs.Pool.{most}
 use Rattle.definition.specs.Words.{_=?_}
 use Rattle.refinement.specs.Table.{by-eq}
 use Rattle.refinement.specs.Rules.{isShelved}
@@ -170,25 +171,25 @@ met-more i a met low m e =
 -- ── the order list ──
 
 module _ (a seats : List ℕ) (i e : ℕ) (is : e ≡ getD a i 0) where
-  pub order-fails : (n : ℕ) → n ≤ 64 → i < n → listedAt a seats i ≡ false → false ≡ orderRight a seats n
+  pub order-fails : (n : ℕ) → n ≤ most → i < n → listedAt a seats i ≡ false → false ≡ orderRight a seats n
   unfolding orderRight
-  order-fails n h k f = rw (le-leb n 64 h) (every-fails n i (listedAt a seats) k f)
+  order-fails n h k f = rw (le-leb n most h) (every-fails n i (listedAt a seats) k f)
 
-  pub listed-high : 64 ≤ e → listedAt a seats i ≡ false
-  listed-high h = rw (← is, le-ltb e 64 h)
+  pub listed-high : most ≤ e → listedAt a seats i ≡ false
+  listed-high h = rw (← is, le-ltb e most h)
 
-  pub listed-unshelved : e < 64 → isShelved (getD seats e 0) ≡ false → listedAt a seats i ≡ false
-  listed-unshelved h k = rw (← is, lt-ltb e 64 h, k)
+  pub listed-unshelved : e < most → isShelved (getD seats e 0) ≡ false → listedAt a seats i ≡ false
+  listed-unshelved h k = rw (← is, lt-ltb e most h, k)
 
-  pub listed-met : e < 64 → isShelved (getD seats e 0) ≡ true → not (among e i a) ≡ false → listedAt a seats i ≡ false
-  listed-met h k f = rw (← is, lt-ltb e 64 h, k, f)
+  pub listed-met : e < most → isShelved (getD seats e 0) ≡ true → not (among e i a) ≡ false → listedAt a seats i ≡ false
+  listed-met h k f = rw (← is, lt-ltb e most h, k, f)
 
-  pub listed-new : e < 64 → isShelved (getD seats e 0) ≡ true → not (among e i a) ≡ true → listedAt a seats i ≡ true
-  listed-new h k f = rw (← is, lt-ltb e 64 h, k, f)
+  pub listed-new : e < most → isShelved (getD seats e 0) ≡ true → not (among e i a) ≡ true → listedAt a seats i ≡ true
+  listed-new h k f = rw (← is, lt-ltb e most h, k, f)
 
-pub met-none : (a : List ℕ) → Met a 0 (replicate 64 0)
+pub met-none : (a : List ℕ) → Met a 0 (replicate most 0)
 unfolding among
-met-none a e = rw (zeros 64 e)
+met-none a e = rw (zeros most e)
   where
     zeros : (n j : ℕ) → getD {A = ℕ} (replicate n 0) j 0 ≡ 0
     zeros zero j = refl

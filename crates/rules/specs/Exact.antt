@@ -8,7 +8,7 @@ use lib.ListN.{length, getD, take, drop}
 use lib.Seq.{getD-take, length-take-le}
 use borrow.Author.Tests.{lt-ltb, le-ltb, le-leb, eq-eqb, ne-eqb, ltb-true, leb-true, eqb-true}
 use Rattle.definition.specs.Words.{if_then_else_, _=?_, _<?_, _≤?_}
-use Rattle.definition.specs.Pool.{inRange, most}
+use Rattle.definition.specs.Pool.{queueLength, inRange, most}
 use Rattle.definition.specs.Refusals.{lastNextId}
 use Rattle.definition.specs.declared.Options.{Options}
 use Rattle.slots.specs.declared.Head.{Head}
@@ -35,37 +35,37 @@ options-pass o l =
 
 -- ── Ids ────────────────────────────────────────────────────────────────────────────────────────────────────────────────
 
-module _ (cs : List ℕ) (l : length (take 64 cs) ≡ 64) where
-  below-say : (next : ℕ) → idsBelow cs next ≡ true → (j : ℕ) → getD (take 64 cs) j 0 < next
+module _ (cs : List ℕ) (l : length (take most cs) ≡ most) where
+  below-say : (next : ℕ) → idsBelow cs next ≡ true → (j : ℕ) → getD (take most cs) j 0 < next
   unfolding idsBelow
   below-say next h j =
-      let at : (i : ℕ) → i < 64 → getD cs i 0 < next = λ i k. ltb-true (getD cs i 0) next (every-all 64 (λ i. getD cs i 0 <? next) h i k) in
-      by-lt j 64 (λ k. omega (arith, getD-take 64 cs j 0 k, at j k)) (λ k. omega (arith, past (take 64 cs) 0 j (omega arith), at 0 (omega arith)))
+      let at : (i : ℕ) → i < most → getD cs i 0 < next = λ i k. ltb-true (getD cs i 0) next (every-all most (λ i. getD cs i 0 <? next) h i k) in
+      by-lt j most (λ k. omega (arith, getD-take most cs j 0 k, at j k)) (λ k. omega (arith, past (take most cs) 0 j (omega arith), at 0 (omega arith)))
 
-  below-pass : (next : ℕ) → ((j : ℕ) → getD (take 64 cs) j 0 < next) → idsBelow cs next ≡ true
+  below-pass : (next : ℕ) → ((j : ℕ) → getD (take most cs) j 0 < next) → idsBelow cs next ≡ true
   unfolding idsBelow
-  below-pass next h = all-every 64 (λ i. getD cs i 0 <? next) (λ j k. lt-ltb (getD cs j 0) next (omega (arith, getD-take 64 cs j 0 k, h j)))
+  below-pass next h = all-every most (λ i. getD cs i 0 <? next) (λ j k. lt-ltb (getD cs j 0) next (omega (arith, getD-take most cs j 0 k, h j)))
 
-  new-say : idsDistinct cs ≡ true → (i j : ℕ) → i < j → j < 64 → 0 < getD cs j 0 → getD cs i 0 ≡ getD cs j 0 → ⊥
+  new-say : idsDistinct cs ≡ true → (i j : ℕ) → i < j → j < most → 0 < getD cs j 0 → getD cs i 0 ≡ getD cs j 0 → ⊥
   unfolding idsDistinct
   new-say h i j k low z e =
       let n : getD cs j 0 ≡ 0 → ⊥ = λ q. omega arith in
-      not-among (getD cs j 0) j cs (or-right (getD cs j 0 =? 0) (not (among (getD cs j 0) j cs)) (ne-eqb (getD cs j 0) 0 n) (every-all 64 (newId cs) h j low)) i k e
+      not-among (getD cs j 0) j cs (or-right (getD cs j 0 =? 0) (not (among (getD cs j 0) j cs)) (ne-eqb (getD cs j 0) 0 n) (every-all most (newId cs) h j low)) i k e
 
-  distinct-say : idsDistinct cs ≡ true → Unique (take 64 cs)
+  distinct-say : idsDistinct cs ≡ true → Unique (take most cs)
   distinct-say h i j a b z e =
-      let x = getD-take 64 cs i 0 (omega arith) in
-      let y = getD-take 64 cs j 0 (omega arith) in
+      let x = getD-take most cs i 0 (omega arith) in
+      let y = getD-take most cs j 0 (omega arith) in
       let s : getD cs i 0 ≡ getD cs j 0 = sym x ∙ e ∙ y in
       by-eq i j (λ q. q) (λ q. by-lt i j (λ k. absurd (new-say h i j k (omega arith) (omega (arith, x)) s)) (λ k. absurd (new-say h j i (omega (arith, q)) (omega arith) (omega (arith, x)) (sym s))))
 
-  distinct-pass : Unique (take 64 cs) → idsDistinct cs ≡ true
+  distinct-pass : Unique (take most cs) → idsDistinct cs ≡ true
   unfolding idsDistinct
-  distinct-pass u = all-every 64 (newId cs) (λ i k. by-eq (getD cs i 0) 0
+  distinct-pass u = all-every most (newId cs) (λ i k. by-eq (getD cs i 0) 0
       (λ z. rw (eq-eqb (getD cs i 0) 0 z))
       (λ z. rw (ne-eqb (getD cs i 0) 0 z) (new-among (getD cs i 0) i cs (λ j m e.
-      let x = getD-take 64 cs i 0 k in
-      let y = getD-take 64 cs j 0 (omega arith) in
+      let x = getD-take most cs i 0 k in
+      let y = getD-take most cs j 0 (omega arith) in
       omega (arith, u i j (omega arith) (omega arith) (omega (arith, z, x)) (x ∙ sym e ∙ sym y))))))
 
 -- ── Slots ──────────────────────────────────────────────────────────────────────────────────────────────────────────────
@@ -96,32 +96,32 @@ module _ (h : Head) (cs ts ss ws : List ℕ) (w : Whole (poolOf h cs ts ss ws)) 
   abbrev P : SlotPool
   P = poolOf h cs ts ss ws
 
-  id-of : (j : ℕ) → j < 64 → S.idAt P j ≡ getD cs j 0
-  id-of j low = getD-take 64 cs j 0 low
+  id-of : (j : ℕ) → j < most → S.idAt P j ≡ getD cs j 0
+  id-of j low = getD-take most cs j 0 low
 
-  state-of : (j : ℕ) → j < 64 → S.slotAt P j .state ≡ getD ss j 0
+  state-of : (j : ℕ) → j < most → S.slotAt P j .state ≡ getD ss j 0
   state-of j low = ap (λ (s : Slot). s .state) (slot-at h cs ts ss ws w j low)
 
-  fit-at : slotsFit cs ts ss ≡ true → (j : ℕ) → j < 64 → slotFits (getD cs j 0) (getD cs (64 + j) 0) (getD ts j 0) (getD ss j 0) ≡ true
+  fit-at : slotsFit cs ts ss ≡ true → (j : ℕ) → j < most → slotFits (getD cs j 0) (getD cs (most + j) 0) (getD ts j 0) (getD ss j 0) ≡ true
   unfolding slotsFit
-  fit-at f = every-all 64 (λ i. slotFits (getD cs i 0) (getD cs (64 + i) 0) (getD ts i 0) (getD ss i 0)) f
+  fit-at f = every-all most (λ i. slotFits (getD cs i 0) (getD cs (most + i) 0) (getD ts i 0) (getD ss i 0)) f
 
   slots-blank : slotsFit cs ts ss ≡ true → (j : ℕ) → S.idAt P j ≡ 0 → S.slotAt P j ≡ vacant
   slots-blank f j e =
-      by-lt j 64
-      (λ k. slot-at h cs ts ss ws w j k ∙ vacant-say (getD cs j 0) (getD cs (64 + j) 0) (getD ts j 0) (getD ss j 0) (sym (id-of j k) ∙ e) (fit-at f j k))
+      by-lt j most
+      (λ k. slot-at h cs ts ss ws w j k ∙ vacant-say (getD cs j 0) (getD cs (most + j) 0) (getD ts j 0) (getD ss j 0) (sym (id-of j k) ∙ e) (fit-at f j k))
       (λ k. past (P .slots) vacant j (omega (arith, w .slots)))
 
   slots-used : slotsFit cs ts ss ≡ true → (j : ℕ) → 0 < S.idAt P j → Used (S.slotAt P j)
   slots-used f j z =
-      by-lt j 64
-      (λ k. let r = used-say (getD cs j 0) (getD cs (64 + j) 0) (getD ts j 0) (getD ss j 0) (omega (arith, id-of j k)) (fit-at f j k) in (omega (arith, state-of j k, r .0), omega (arith, state-of j k, r .1)))
+      by-lt j most
+      (λ k. let r = used-say (getD cs j 0) (getD cs (most + j) 0) (getD ts j 0) (getD ss j 0) (omega (arith, id-of j k)) (fit-at f j k) in (omega (arith, state-of j k, r .0), omega (arith, state-of j k, r .1)))
       (λ k. absurd (omega (arith, past (P .ids) 0 j (omega (arith, w .ids)))))
 
   slots-pass : ((j : ℕ) → S.idAt P j ≡ 0 → S.slotAt P j ≡ vacant) → ((j : ℕ) → 0 < S.idAt P j → Used (S.slotAt P j)) → slotsFit cs ts ss ≡ true
   unfolding slotsFit
-  slots-pass b u = all-every 64 (λ i. slotFits (getD cs i 0) (getD cs (64 + i) 0) (getD ts i 0) (getD ss i 0)) (λ j k.
-      let g = getD cs (64 + j) 0 in
+  slots-pass b u = all-every most (λ i. slotFits (getD cs i 0) (getD cs (most + i) 0) (getD ts i 0) (getD ss i 0)) (λ j k.
+      let g = getD cs (most + j) 0 in
       let t = getD ts j 0 in
       let s = getD ss j 0 in
       by-eq (getD cs j 0) 0
@@ -133,7 +133,7 @@ module _ (h : Head) (cs ts ss ws : List ℕ) (w : Whole (poolOf h cs ts ss ws)) 
   -- ── Counts ──
 
   states : (t : Class) → howMany t ss ≡ tally (length (P .ids)) (kinds t (P .slots))
-  states t = tally-same 64 (λ i. t (getD ss i 0)) (kinds t (P .slots)) (λ j k. ap t (sym (state-of j k))) ∙ ap (λ (n : ℕ). tally n (kinds t (P .slots))) (sym (w .ids))
+  states t = tally-same most (λ i. t (getD ss i 0)) (kinds t (P .slots)) (λ j k. ap t (sym (state-of j k))) ∙ ap (λ (n : ℕ). tally n (kinds t (P .slots))) (sym (w .ids))
 
   module _ (b : (j : ℕ) → S.idAt P j ≡ 0 → S.slotAt P j ≡ vacant) where
     how-many : (t : Class) → t 0 ≡ false → howMany t ss ≡ many t (P .ids) (P .slots)
@@ -146,49 +146,49 @@ module _ (h : Head) (cs ts ss ws : List ℕ) (w : Whole (poolOf h cs ts ss ws)) 
 
   -- ── The order list ──
 
-  order-fits : orderRight (drop 64 ss) ss (h .«available_count») ≡ true → h .«available_count» ≤ 64
+  order-fits : orderRight (drop most ss) ss (h .«available_count») ≡ true → h .«available_count» ≤ most
   unfolding orderRight
-  order-fits t = leb-true (h .«available_count») 64 (and-left (h .«available_count» ≤? 64) (every (h .«available_count») (listedAt (drop 64 ss) ss)) t)
+  order-fits t = leb-true (h .«available_count») most (and-left (h .«available_count» ≤? most) (every (h .«available_count») (listedAt (drop most ss) ss)) t)
 
-  order-at : orderRight (drop 64 ss) ss (h .«available_count») ≡ true → (j : ℕ) → j < h .«available_count» → listedAt (drop 64 ss) ss j ≡ true
+  order-at : orderRight (drop most ss) ss (h .«available_count») ≡ true → (j : ℕ) → j < h .«available_count» → listedAt (drop most ss) ss j ≡ true
   unfolding orderRight
-  order-at t = every-all (h .«available_count») (listedAt (drop 64 ss) ss) (and-right (h .«available_count» ≤? 64) (every (h .«available_count») (listedAt (drop 64 ss) ss)) t)
+  order-at t = every-all (h .«available_count») (listedAt (drop most ss) ss) (and-right (h .«available_count» ≤? most) (every (h .«available_count») (listedAt (drop most ss) ss)) t)
 
-  order-long : h .«available_count» ≤ 64 → length (take (h .«available_count») (drop 64 ss)) ≡ h .«available_count»
-  order-long f = length-take-le (h .«available_count») (drop 64 ss) (omega (arith, w .available))
+  order-long : h .«available_count» ≤ most → length (take (h .«available_count») (drop most ss)) ≡ h .«available_count»
+  order-long f = length-take-le (h .«available_count») (drop most ss) (omega (arith, w .available))
 
-  order-listed : ((j : ℕ) → S.idAt P j ≡ 0 → S.slotAt P j ≡ vacant) → orderRight (drop 64 ss) ss (h .«available_count») ≡ true → All (Listed (P .ids) (P .slots)) (take (h .«available_count») (drop 64 ss))
+  order-listed : ((j : ℕ) → S.idAt P j ≡ 0 → S.slotAt P j ≡ vacant) → orderRight (drop most ss) ss (h .«available_count») ≡ true → All (Listed (P .ids) (P .slots)) (take (h .«available_count») (drop most ss))
   order-listed b t =
       let n = h .«available_count» in
-      let a = drop 64 ss in
+      let a = drop most ss in
       all-of (Listed (P .ids) (P .slots)) (take n a) (λ j k.
       let low : j < n = omega (arith, order-long (order-fits t)) in
       let e = getD a j 0 in
       let q = order-at t j low in
-      let r = and-right (e <? 64) (isShelved (getD ss e 0) && not (among e j a)) q in
-      let i : e < 64 = ltb-true e 64 (and-left (e <? 64) (isShelved (getD ss e 0) && not (among e j a)) q) in
+      let r = and-right (e <? most) (isShelved (getD ss e 0) && not (among e j a)) q in
+      let i : e < most = ltb-true e most (and-left (e <? most) (isShelved (getD ss e 0) && not (among e j a)) q) in
       let s : S.slotAt P e .state ≡ 1 = state-of e i ∙ eqb-true (getD ss e 0) 1 (and-left (isShelved (getD ss e 0)) (not (among e j a)) r) in
       rw (getD-take n a j 0 low) (i, by-eq (S.idAt P e) 0 (λ z. absurd (omega (arith, s, ap (λ (x : Slot). x .state) (b e z)))) (λ z. omega (arith, z)), s))
 
-  order-distinct : orderRight (drop 64 ss) ss (h .«available_count») ≡ true → Distinct (take (h .«available_count») (drop 64 ss))
+  order-distinct : orderRight (drop most ss) ss (h .«available_count») ≡ true → Distinct (take (h .«available_count») (drop most ss))
   order-distinct t =
       let n = h .«available_count» in
-      let a = drop 64 ss in
+      let a = drop most ss in
       distinct-of (take n a) (λ i j k m e.
       let low : j < n = omega (arith, order-long (order-fits t)) in
       let x = getD a j 0 in
-      let r = and-right (x <? 64) (isShelved (getD ss x 0) && not (among x j a)) (order-at t j low) in
+      let r = and-right (x <? most) (isShelved (getD ss x 0) && not (among x j a)) (order-at t j low) in
       not-among x j a (and-right (isShelved (getD ss x 0)) (not (among x j a)) r) i k (sym (getD-take n a i 0 (omega arith)) ∙ e ∙ getD-take n a j 0 low))
 
-  order-pass : h .«available_count» ≤ 64 → All (Listed (P .ids) (P .slots)) (take (h .«available_count») (drop 64 ss)) → Distinct (take (h .«available_count») (drop 64 ss)) → orderRight (drop 64 ss) ss (h .«available_count») ≡ true
+  order-pass : h .«available_count» ≤ most → All (Listed (P .ids) (P .slots)) (take (h .«available_count») (drop most ss)) → Distinct (take (h .«available_count») (drop most ss)) → orderRight (drop most ss) ss (h .«available_count») ≡ true
   unfolding orderRight
   order-pass f al d =
       let n = h .«available_count» in
-      let a = drop 64 ss in
-      both-true (le-leb n 64 f) (all-every n (listedAt a ss) (λ j low.
+      let a = drop most ss in
+      both-true (le-leb n most f) (all-every n (listedAt a ss) (λ j low.
       let k : j < length (take n a) = omega (arith, order-long f) in
       let v : Listed (P .ids) (P .slots) (getD a j 0) = rw (getD-take n a j 0 low) at (all-at (Listed (P .ids) (P .slots)) (take n a) al j k) in
-      both-true (lt-ltb (getD a j 0) 64 (v .0)) (both-true (eq-eqb (getD ss (getD a j 0) 0) 1 (sym (state-of (getD a j 0) (v .0)) ∙ v .2)) (new-among (getD a j 0) j a (λ i q e.
+      both-true (lt-ltb (getD a j 0) most (v .0)) (both-true (eq-eqb (getD ss (getD a j 0) 0) 1 (sym (state-of (getD a j 0) (v .0)) ∙ v .2)) (new-among (getD a j 0) j a (λ i q e.
       distinct-has (take n a) d i j q k (getD-take n a i 0 (omega arith) ∙ e ∙ sym (getD-take n a j 0 low)))))))
 
 counts-say : (ss : List ℕ) (total pending available : ℕ) → countsRight ss total pending available ≡ true
@@ -224,26 +224,26 @@ before-take : (b n : ℕ) (l : List ℕ) (j : ℕ) → j < n → before b (take 
 before-take b n l zero h = refl
 before-take b n l (suc j) h = ap (λ (x : ℕ). x / 4) (getD-take n l j 0 (omega arith))
 
-module _ (ws : List ℕ) (n last : ℕ) (l : length ws ≡ 256) where
-  queue-fits : queueRises ws n last ≡ true → n ≤ 256
+module _ (ws : List ℕ) (n last : ℕ) (l : length ws ≡ queueLength) where
+  queue-fits : queueRises ws n last ≡ true → n ≤ queueLength
   unfolding queueRises
-  queue-fits h = leb-true n 256 (and-left (n ≤? 256) (every n (λ i. waiterFits (before 0 ws i) (getD ws i 0 / 4) last)) h)
+  queue-fits h = leb-true n queueLength (and-left (n ≤? queueLength) (every n (λ i. waiterFits (before 0 ws i) (getD ws i 0 / 4) last)) h)
 
-  queue-long : n ≤ 256 → length (take n ws) ≡ n
+  queue-long : n ≤ queueLength → length (take n ws) ≡ n
   queue-long h = length-take-le n ws (omega arith)
 
   queue-say : queueRises ws n last ≡ true → Rises 0 last (map waiterOf (take n ws))
   unfolding queueRises
   queue-say h = rises-of 0 last (take n ws) (λ j k.
-      let f : n ≤ 256 = leb-true n 256 (and-left (n ≤? 256) (every n (λ i. waiterFits (before 0 ws i) (getD ws i 0 / 4) last)) h) in
+      let f : n ≤ queueLength = leb-true n queueLength (and-left (n ≤? queueLength) (every n (λ i. waiterFits (before 0 ws i) (getD ws i 0 / 4) last)) h) in
       let low : j < n = omega (arith, queue-long f) in
       let x = getD ws j 0 / 4 in
-      let t = every-all n (λ i. waiterFits (before 0 ws i) (getD ws i 0 / 4) last) (and-right (n ≤? 256) (every n (λ i. waiterFits (before 0 ws i) (getD ws i 0 / 4) last)) h) j low in
+      let t = every-all n (λ i. waiterFits (before 0 ws i) (getD ws i 0 / 4) last) (and-right (n ≤? queueLength) (every n (λ i. waiterFits (before 0 ws i) (getD ws i 0 / 4) last)) h) j low in
       rw (before-take 0 n ws j low, getD-take n ws j 0 low) (ltb-true (before 0 ws j) x (and-left (before 0 ws j <? x) (x ≤? last) t), leb-true x last (and-right (before 0 ws j <? x) (x ≤? last) t)))
 
-  queue-pass : n ≤ 256 → Rises 0 last (map waiterOf (take n ws)) → queueRises ws n last ≡ true
+  queue-pass : n ≤ queueLength → Rises 0 last (map waiterOf (take n ws)) → queueRises ws n last ≡ true
   unfolding queueRises
-  queue-pass f r = both-true (le-leb n 256 f) (all-every n (λ i. waiterFits (before 0 ws i) (getD ws i 0 / 4) last) (λ j low.
+  queue-pass f r = both-true (le-leb n queueLength f) (all-every n (λ i. waiterFits (before 0 ws i) (getD ws i 0 / 4) last) (λ j low.
       let v : (before 0 ws j < getD ws j 0 / 4) × (getD ws j 0 / 4 ≤ last) = rw (before-take 0 n ws j low, getD-take n ws j 0 low) at (rises-at 0 last (take n ws) r j (omega (arith, queue-long f))) in
       both-true (lt-ltb (before 0 ws j) (getD ws j 0 / 4) (v .0)) (le-leb (getD ws j 0 / 4) last (v .1))))
 
@@ -271,7 +271,7 @@ module _ (h : Head) (cs ts ss ws : List ℕ) (w : Whole (poolOf h cs ts ss ws)) 
       let n = h .«available_count» in
       let m = h .«waiting_count» in
       let t = ten (inRange (h .options)) (next ≤? lastNextId + 65) (idsBelow cs next) (idsDistinct cs) (slotsFit cs ts ss)
-      (countsRight ss (h .«total_connection_count») (h .«pending_connection_count») n) (orderRight (drop 64 ss) ss n) (blankFrom 64 n (drop 64 ss)) (queueRises ws m (h .«last_request»)) (blankFrom 256 m ws) q in
+      (countsRight ss (h .«total_connection_count») (h .«pending_connection_count») n) (orderRight (drop most ss) ss n) (blankFrom most n (drop most ss)) (queueRises ws m (h .«last_request»)) (blankFrom queueLength m ws) q in
       let b = slots-blank h cs ts ss ws w (t .4) in
       let u = slots-used h cs ts ss ws w (t .4) in
       let c = counts-say ss (h .«total_connection_count») (h .«pending_connection_count») n (t .5) in
@@ -285,12 +285,12 @@ module _ (h : Head) (cs ts ss ws : List ℕ) (w : Whole (poolOf h cs ts ss ws)) 
         fits = order-fits h cs ts ss ws w (t .6);
         listed = order-listed h cs ts ss ws w b (t .6);
         distinct = order-distinct h cs ts ss ws w (t .6);
-        rest = blank-say 64 n (drop 64 ss) (w .available) (t .7);
+        rest = blank-say most n (drop most ss) (w .available) (t .7);
         shelved = sym (c .2) ∙ how-many h cs ts ss ws w b isShelved refl;
         pending = sym (c .1) ∙ how-many h cs ts ss ws w b isPending refl;
         total = sym (c .0) ∙ how-taken h cs ts ss ws w b u;
         queue = queue-fits ws m (h .«last_request») (w .waiters) (t .8);
-        queueRest = blank-say 256 m ws (w .waiters) (t .9);
+        queueRest = blank-say queueLength m ws (w .waiters) (t .9);
         rises = queue-say ws m (h .«last_request») (w .waiters) (t .8);
         serial = low;
         numbers = leb-true next (lastNextId + 65) (t .1);
@@ -313,8 +313,8 @@ module _ (h : Head) (cs ts ss ws : List ℕ) (w : Whole (poolOf h cs ts ss ws)) 
       (how-taken h cs ts ss ws w (r .blank) (r .used) ∙ sym (r .total))
       (how-many h cs ts ss ws w (r .blank) isPending refl ∙ sym (r .pending))
       (how-many h cs ts ss ws w (r .blank) isShelved refl ∙ sym (r .shelved)))
-      (both-true (order-pass h cs ts ss ws w (r .fits) (r .listed) (r .distinct)) (blank-pass 64 n (drop 64 ss) (r .rest))))
-      (both-true (queue-pass ws m (h .«last_request») (w .waiters) (r .queue) (r .rises)) (blank-pass 256 m ws (r .queueRest))))
+      (both-true (order-pass h cs ts ss ws w (r .fits) (r .listed) (r .distinct)) (blank-pass most n (drop most ss) (r .rest))))
+      (both-true (queue-pass ws m (h .«last_request») (w .waiters) (r .queue) (r .rises)) (blank-pass queueLength m ws (r .queueRest))))
 
 -- ── What the test says ─────────────────────────────────────────────────────────────────────────────────────────────────
 

@@ -7,7 +7,7 @@ use native.Mathlib.Omega.{arith}
 use borrow.Author.Tests.{ltb-true, le-leb, lt-leb, ne-eqb, eq-eqb}
 use lib.ListN.{length, getD, set, length-set}
 use Rattle.definition.specs.Words.{if_then_else_, _<?_, _≤?_, _=?_}
-use Rattle.definition.specs.Pool.{Waiter, isReady}
+use Rattle.definition.specs.Pool.{most, Waiter, isReady}
 use Rattle.definition.specs.Records.{Pooled, Warmed, Establishing, fieldsOf, told}
 use Rattle.definition.specs.Steps.{Out, nothing, emit, _>>_}
 use Rattle.definition.specs.Bytes.{serialOf, recordBytes}
@@ -123,15 +123,15 @@ module _ (q : SlotPool) where
   unfolding popBack
   back-whole w = record { ids = w .ids; slots = w .slots; available = rw length-set (w .available); waiters = w .waiters }
 
-  pub back-closed-safe : (r : ClosedReason) (i : ℕ) → Whole q → CanTake q → 0 < q .availables → i < 64 → CanTake (closeAt r i (popBack q .pool) .pool)
+  pub back-closed-safe : (r : ClosedReason) (i : ℕ) → Whole q → CanTake q → 0 < q .availables → i < most → CanTake (closeAt r i (popBack q .pool) .pool)
   unfolding popBack closeAt _>>_
   back-closed-safe r i w s z low = record {
     prune = record {
       counts = omega (arith, s .prune .counts);
       fits = omega (arith, s .prune .fits);
-      listed = set-below 64 (q .available) (q .availables - 1) (omega arith) (s .prune .listed);
+      listed = set-below most (q .available) (q .availables - 1) (omega arith) (s .prune .listed);
     };
-    spot = λ _. place-set 64 i (q .ids) low (omega (arith, w .ids));
+    spot = λ _. place-set most i (q .ids) low (omega (arith, w .ids));
     ids = s .ids;
     total = omega (arith, s .total);
     pending = s .pending;
@@ -160,7 +160,7 @@ turn-reason {k} {q} {i} {r} t n = perished-number q i r (t .code) n
 -- a turn after the back has left the list
 module _ {w : Waiter} {s k₀ n₀ : ℕ} {p : SlotPool} {l₀ : List ℕ} {k n : ℕ} {q q₁ : SlotPool} {l : List ℕ} {i r : ℕ}
     (v : Taking w s k₀ n₀ p l₀ k n q l) (t : Turn k q i r) (f : q₁ ≡ popBack q .pool) where
-  turn-slot : i < 64
+  turn-slot : i < most
   turn-slot = omega (arith, t .back, v .safe .prune .listed (k - 1))
 
   turn-more : k ≡ suc (k - 1)

@@ -5,7 +5,7 @@ use mathlib.Core.Option.{Option, none, some}
 use Prim.Native.Nat.{ℕ, _+_, _%_}
 use lib.ListN.{length, getD}
 use Rattle.definition.specs.Words.{if_then_else_, _<?_, _≤?_, _=?_}
-use Rattle.definition.specs.Pool.{isClosed, queueLength}
+use Rattle.definition.specs.Pool.{most, isClosed, queueLength}
 use Rattle.definition.specs.Steps.{Out, kindNo, _to_holds_}
 use Rattle.definition.specs.Bytes.{serialOf}
 use Rattle.definition.specs.Refusals.{Test, _if_, first, takenAfterClose, enoughRoom, lastNextId, lastGeneration, wrongTime}
@@ -27,7 +27,7 @@ use Rattle.slots.specs.declared.Outcome.the-variants.{Refused, Accepted}
 -- the slot of a connection's id, 64 where it has none; the place of a waiting request, past the last where it does not wait
 module _ (p : SlotPool) (n : ℕ) where
   abbrev pub slotOf : ℕ
-  slotOf = place n 64 (p .ids)
+  slotOf = place n most (p .ids)
 
   abbrev pub waiterOf? : ℕ
   waiterOf? = placeOf n (p .waitings) (p .waiters)

@@ -6,7 +6,7 @@ use Prim.Native.Nat.{ℕ, zero, suc, _+_, _≤_, _<_}
 use native.Mathlib.Omega.{arith}
 use lib.ListN.{length, getD, set, length-set}
 use Rattle.definition.specs.Words.{if_then_else_, _=?_}
-use Rattle.definition.specs.Pool.{idleFor}
+use Rattle.definition.specs.Pool.{most, idleFor}
 use Rattle.definition.specs.Steps.{_>>_}
 use Rattle.definition.specs.declared.ClosedReason.{ClosedReason}
 use Rattle.definition.specs.declared.ClosedReason.the-variants.{Idle, Stale}
@@ -81,8 +81,8 @@ healthy false false e = refl
 abbrev pub perishedNoAt : SlotPool → ℕ → ℕ
 perishedNoAt p i = perishedNo (p .generation) (p .options .idle) (p .clock) (slotAt p i .generation) (slotAt p i .time)
 
-pub perished-at : (h : Head) (cs ts ss ws : List ℕ) → Whole (poolOf h cs ts ss ws) → (i : ℕ) → i < 64
-    → perishedNo (h .mode .generation) (h .options .idle) (h .clock) (getD cs (64 + i) 0) (getD ts i 0) ≡ perishedNoAt (poolOf h cs ts ss ws) i
+pub perished-at : (h : Head) (cs ts ss ws : List ℕ) → Whole (poolOf h cs ts ss ws) → (i : ℕ) → i < most
+    → perishedNo (h .mode .generation) (h .options .idle) (h .clock) (getD cs (most + i) 0) (getD ts i 0) ≡ perishedNoAt (poolOf h cs ts ss ws) i
 perished-at h cs ts ss ws w i low =
     ap (λ (x : Slot). perishedNo (h .mode .generation) (h .options .idle) (h .clock) (x .generation) (x .time)) (sym (slot-at h cs ts ss ws w i low))
 
@@ -120,7 +120,7 @@ module _ (p : SlotPool) where
   popped-prune s z = record {
     counts = omega (arith, s .counts);
     fits = omega (arith, s .fits);
-    listed = shifted-below 64 (p .availables) (p .available) z (s .listed);
+    listed = shifted-below most (p .availables) (p .available) z (s .listed);
   }
 
   pub closed-whole : (reason : ClosedReason) (i : ℕ) → Whole p → Whole (closeAt reason i p .pool)

@@ -3,6 +3,7 @@ use mathlib.Core.Path.{_≡_}
 use mathlib.Core.List.{List, [], _∷_}
 use Prim.Native.Nat.{ℕ, _+_, _≤_, _<_}
 use lib.ListN.{getD}
+use Rattle.definition.specs.Pool.{queueLength, most}
 use Rattle.definition.specs.Words.{if_then_else_, _=?_}
 use Rattle.slots.specs.Order.{place}
 use Rattle.slots.specs.View.{SlotPool, Whole}
@@ -14,69 +15,69 @@ taken (x ∷ l) = (if x =? 0 then 0 else 1) + taken l
 
 -- there is a vacant slot, and a number for what goes there
 pub record CanCreate (p : SlotPool) : Type 0 where
-  pub spot : place 0 64 (p .ids) < 64
+  pub spot : place 0 most (p .ids) < most
   pub ids : p .nextId < 4294967295
   pub total : p .total < 4294967295
   pub pending : p .pendings < 4294967295
 
 -- slot i can be closed; it can go to the available list; it can stop being pending
 pub record CanClose (p : SlotPool) (i : ℕ) : Type 0 where
-  pub slot : i < 64
+  pub slot : i < most
   pub some : 0 < p .total
 
 pub record CanShelve (p : SlotPool) (i : ℕ) : Type 0 where
-  pub slot : i < 64
-  pub spot : p .availables < 64
+  pub slot : i < most
+  pub spot : p .availables < most
 
 pub record CanLeave (p : SlotPool) (i : ℕ) : Type 0 where
-  pub slot : i < 64
+  pub slot : i < most
   pub some : 0 < p .total
-  pub spot : p .availables < 64
+  pub spot : p .availables < most
   pub pending : 0 < p .pendings
 
 -- the available ones can be closed, one by one
 pub record CanPrune (p : SlotPool) : Type 0 where
   pub counts : p .availables ≤ p .total
-  pub fits : p .availables ≤ 64
-  pub listed : (k : ℕ) → getD (p .available) k 0 < 64
+  pub fits : p .availables ≤ most
+  pub listed : (k : ℕ) → getD (p .available) k 0 < most
 
 -- the pool can be filled up to its minimum
 pub record CanFill (p : SlotPool) : Type 0 where
   pub held : taken (p .ids) ≤ p .total
   pub first : 0 < p .nextId
-  pub minimum : p .options .minimum ≤ 64
+  pub minimum : p .options .minimum ≤ most
   pub ids : p .nextId + p .options .minimum < 4294967295
   pub pending : p .pendings ≤ p .total
 
 pub record CanQueue (p : SlotPool) : Type 0 where
-  pub spot : p .waitings < 256
+  pub spot : p .waitings < queueLength
 
 pub record CanTell (p : SlotPool) : Type 0 where
-  pub fits : p .waitings ≤ 256
+  pub fits : p .waitings ≤ queueLength
 
 pub record CanClear (p : SlotPool) : Type 0 where
-  pub tell : p .waitings ≤ 256
+  pub tell : p .waitings ≤ queueLength
   pub counts : p .availables + p .pendings ≤ p .total
   pub total : p .total < 4294967296
   pub generation : p .generation < 4294967295
 
 pub record CanTake (p : SlotPool) : Type 0 where
   pub prune : CanPrune p
-  pub spot : p .availables ≡ 0 → place 0 64 (p .ids) < 64
+  pub spot : p .availables ≡ 0 → place 0 most (p .ids) < most
   pub ids : p .nextId < 4294967295
   pub total : p .total < 4294967295
   pub pending : p .pendings < 4294967295
 
 -- a pool below its minimum has a vacant slot
 pub record CanWarm (p : SlotPool) : Type 0 where
-  pub spot : p .total < p .options .minimum → place 0 64 (p .ids) < 64
+  pub spot : p .total < p .options .minimum → place 0 most (p .ids) < most
 
 -- a pool below its maximum has a vacant slot
 pub record CanServe (p : SlotPool) : Type 0 where
   pub prune : CanPrune p
   pub minimum : p .options .minimum ≤ p .options .maximum
-  pub spot : p .total < p .options .maximum → place 0 64 (p .ids) < 64
-  pub queue : p .waitings ≤ 256
+  pub spot : p .total < p .options .maximum → place 0 most (p .ids) < most
+  pub queue : p .waitings ≤ queueLength
   pub ids : p .nextId < 4294967295
   pub total : p .total < 4294967295
   pub pending : p .pendings < 4294967295

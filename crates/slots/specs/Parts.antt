@@ -1,10 +1,11 @@
 -- What a change of the lent parts is to the pool that they make.
 use mathlib.Core.Path.{_≡_, refl, sym, ap, _∙_}
 use mathlib.Core.List.{List, [], _∷_}
-use Prim.Native.Nat.{ℕ, zero, suc, _+_, _-_, _≤_, _<_}
+use Prim.Native.Nat.{ℕ, zero, suc, _+_, _-_, _≤_, _<_, _*_}
 use native.Mathlib.Omega.{arith}
 use lib.ListN.{length, getD, set, take, drop, length-drop}
 use lib.Seq.{getD-take, getD-drop}
+use Rattle.definition.specs.Pool.{most}
 use Rattle.slots.specs.Columns.{front-set, front-kept, back-set, back-kept, front-put, back-put}
 use Rattle.slots.specs.View.{SlotPool, Slot, rows, poolOf, Whole}
 use Rattle.slots.specs.Order.{place}
@@ -57,55 +58,55 @@ rows-columns (x ∷ gs) (y ∷ ts) (z ∷ ss) = let r = rows-columns gs ts ss in
 
 module _ (h : Head) (cs ts ss ws : List ℕ) where
   -- slot i gets an id, a generation, a time and a state
-  pub put-pool : (i x g t s : ℕ) → i < 64
-      → poolOf h (set (set cs i x) (64 + i) g) (set ts i t) (set ss i s) ws
-      ≡ withTable (poolOf h cs ts ss ws) (set (take 64 cs) i x) (set (rows (drop 64 cs) ts (take 64 ss)) i (record { generation = g; time = t; state = s }))
+  pub put-pool : (i x g t s : ℕ) → i < most
+      → poolOf h (set (set cs i x) (most + i) g) (set ts i t) (set ss i s) ws
+      ≡ withTable (poolOf h cs ts ss ws) (set (take most cs) i x) (set (rows (drop most cs) ts (take most ss)) i (record { generation = g; time = t; state = s }))
   put-pool i x g t s low =
-      rw (front-put 64 cs i x g, back-put 64 cs i x g low, front-set 64 ss i s, back-kept 64 ss i s low, rows-set (drop 64 cs) ts (take 64 ss) i g t s)
+      rw (front-put most cs i x g, back-put most cs i x g low, front-set most ss i s, back-kept most ss i s low, rows-set (drop most cs) ts (take most ss) i g t s)
 
   -- slot i gets a time and a state
-  pub turn-pool : (i t s : ℕ) → i < 64
+  pub turn-pool : (i t s : ℕ) → i < most
       → poolOf h cs (set ts i t) (set ss i s) ws
-      ≡ withTable (poolOf h cs ts ss ws) (take 64 cs) (set (rows (drop 64 cs) ts (take 64 ss)) i (turned s t (getD (rows (drop 64 cs) ts (take 64 ss)) i vacant)))
-  turn-pool i t s low = rw (front-set 64 ss i s, back-kept 64 ss i s low, rows-turn (drop 64 cs) ts (take 64 ss) i t s)
+      ≡ withTable (poolOf h cs ts ss ws) (take most cs) (set (rows (drop most cs) ts (take most ss)) i (turned s t (getD (rows (drop most cs) ts (take most ss)) i vacant)))
+  turn-pool i t s low = rw (front-set most ss i s, back-kept most ss i s low, rows-turn (drop most cs) ts (take most ss) i t s)
 
   -- place k of the available list gets a slot
-  pub list-pool : (k v : ℕ) → poolOf h cs ts (set ss (64 + k) v) ws ≡ withAvailable (poolOf h cs ts ss ws) (set (drop 64 ss) k v) (h .«available_count»)
-  list-pool k v = rw (front-kept 64 ss (64 + k) v (omega arith), back-set 64 ss k v)
+  pub list-pool : (k v : ℕ) → poolOf h cs ts (set ss (most + k) v) ws ≡ withAvailable (poolOf h cs ts ss ws) (set (drop most ss) k v) (h .«available_count»)
+  list-pool k v = rw (front-kept most ss (most + k) v (omega arith), back-set most ss k v)
 
   -- the states stay, and the available list is another
-  pub order-pool : (ss' a : List ℕ) → take 64 ss' ≡ take 64 ss → drop 64 ss' ≡ a → poolOf h cs ts ss' ws ≡ withAvailable (poolOf h cs ts ss ws) a (h .«available_count»)
+  pub order-pool : (ss' a : List ℕ) → take most ss' ≡ take most ss → drop most ss' ≡ a → poolOf h cs ts ss' ws ≡ withAvailable (poolOf h cs ts ss ws) a (h .«available_count»)
   order-pool ss' a e f = rw (e, f)
 
-  pub id-at : (i : ℕ) → i < 64 → idAt (poolOf h cs ts ss ws) i ≡ getD cs i 0
-  id-at i low = getD-take 64 cs i 0 low
+  pub id-at : (i : ℕ) → i < most → idAt (poolOf h cs ts ss ws) i ≡ getD cs i 0
+  id-at i low = getD-take most cs i 0 low
 
-  pub available-at : (k : ℕ) → getD (poolOf h cs ts ss ws .available) k 0 ≡ getD ss (64 + k) 0
-  available-at k = getD-drop 64 ss k 0
+  pub available-at : (k : ℕ) → getD (poolOf h cs ts ss ws .available) k 0 ≡ getD ss (most + k) 0
+  available-at k = getD-drop most ss k 0
 
-  pub slot-at : Whole (poolOf h cs ts ss ws) → (i : ℕ) → i < 64
-      → slotAt (poolOf h cs ts ss ws) i ≡ record { generation = getD cs (64 + i) 0; time = getD ts i 0; state = getD ss i 0 }
+  pub slot-at : Whole (poolOf h cs ts ss ws) → (i : ℕ) → i < most
+      → slotAt (poolOf h cs ts ss ws) i ≡ record { generation = getD cs (most + i) 0; time = getD ts i 0; state = getD ss i 0 }
   slot-at w i low =
-      row-at (drop 64 cs) ts (take 64 ss) i (omega (arith, w .slots)) ∙ rw (getD-drop 64 cs i 0, getD-take 64 ss i 0 low)
+      row-at (drop most cs) ts (take most ss) i (omega (arith, w .slots)) ∙ rw (getD-drop most cs i 0, getD-take most ss i 0 low)
 
-  pub generation-at : Whole (poolOf h cs ts ss ws) → (i : ℕ) → i < 64 → slotAt (poolOf h cs ts ss ws) i .generation ≡ getD cs (64 + i) 0
+  pub generation-at : Whole (poolOf h cs ts ss ws) → (i : ℕ) → i < most → slotAt (poolOf h cs ts ss ws) i .generation ≡ getD cs (most + i) 0
   generation-at w i low = ap (λ (s : Slot). s .generation) (slot-at w i low)
 
-  pub cells-long : Whole (poolOf h cs ts ss ws) → (64 ≤ length (drop 64 cs)) × (64 ≤ length ts) × (64 ≤ length (take 64 ss))
-  cells-long w = let r = rows-columns (drop 64 cs) ts (take 64 ss) in (omega (arith, w .slots, r .0), omega (arith, w .slots, r .1), omega (arith, w .slots, r .2))
+  pub cells-long : Whole (poolOf h cs ts ss ws) → (most ≤ length (drop most cs)) × (most ≤ length ts) × (most ≤ length (take most ss))
+  cells-long w = let r = rows-columns (drop most cs) ts (take most ss) in (omega (arith, w .slots, r .0), omega (arith, w .slots, r .1), omega (arith, w .slots, r .2))
 
-  pub seats-long : Whole (poolOf h cs ts ss ws) → length ss ≡ 128
-  seats-long w = let e : length (drop 64 ss) ≡ length ss - 64 = length-drop 64 ss in omega (arith, w .available, e)
+  pub seats-long : Whole (poolOf h cs ts ss ws) → length ss ≡ 2 * most
+  seats-long w = let e : length (drop most ss) ≡ length ss - most = length-drop most ss in omega (arith, w .available, e)
 
   -- slot i goes to place k of the available list
-  pub shelved-pool : (k i t : ℕ) → i < 64
-      → poolOf h cs (set ts i t) (set (set ss (64 + k) i) i 1) ws
-      ≡ withAvailable (withTable (poolOf h cs ts ss ws) (take 64 cs) (set (rows (drop 64 cs) ts (take 64 ss)) i (turned 1 t (getD (rows (drop 64 cs) ts (take 64 ss)) i vacant)))) (set (drop 64 ss) k i) (h .«available_count»)
+  pub shelved-pool : (k i t : ℕ) → i < most
+      → poolOf h cs (set ts i t) (set (set ss (most + k) i) i 1) ws
+      ≡ withAvailable (withTable (poolOf h cs ts ss ws) (take most cs) (set (rows (drop most cs) ts (take most ss)) i (turned 1 t (getD (rows (drop most cs) ts (take most ss)) i vacant)))) (set (drop most ss) k i) (h .«available_count»)
   shelved-pool k i t low =
-      rw (front-set 64 (set ss (64 + k) i) i 1, front-kept 64 ss (64 + k) i (omega arith), back-kept 64 (set ss (64 + k) i) i 1 low, back-set 64 ss k i, rows-turn (drop 64 cs) ts (take 64 ss) i t 1)
+      rw (front-set most (set ss (most + k) i) i 1, front-kept most ss (most + k) i (omega arith), back-kept most (set ss (most + k) i) i 1 low, back-set most ss k i, rows-turn (drop most cs) ts (take most ss) i t 1)
 
   -- a new connection in the slot that was found
-  pub created-pool : (i x g t s : ℕ) → i ≡ place 0 64 (take 64 cs) → i < 64
-      → poolOf h (set (set cs i x) (64 + i) g) (set ts i t) (set ss i s) ws
-      ≡ withTable (poolOf h cs ts ss ws) (set (take 64 cs) (place 0 64 (take 64 cs)) x) (set (rows (drop 64 cs) ts (take 64 ss)) (place 0 64 (take 64 cs)) (record { generation = g; time = t; state = s }))
+  pub created-pool : (i x g t s : ℕ) → i ≡ place 0 most (take most cs) → i < most
+      → poolOf h (set (set cs i x) (most + i) g) (set ts i t) (set ss i s) ws
+      ≡ withTable (poolOf h cs ts ss ws) (set (take most cs) (place 0 most (take most cs)) x) (set (rows (drop most cs) ts (take most ss)) (place 0 most (take most cs)) (record { generation = g; time = t; state = s }))
   created-pool i x g t s e low = rw (← e) (put-pool i x g t s low)

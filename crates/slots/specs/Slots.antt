@@ -6,7 +6,7 @@ use mathlib.Core.List.{List, [], _∷_, _++_, map}
 use Prim.Native.Nat.{ℕ, zero, suc, _+_, _-_, _*_, _/_, _%_, _≤_, _<_}
 use lib.ListN.{length, getD, set, take}
 use Rattle.definition.specs.Words.{if_then_else_, _<?_, _≤?_, _=?_}
-use Rattle.definition.specs.Pool.{Waiter, isReady, isClosed, staleIn, idleFor}
+use Rattle.definition.specs.Pool.{most, Waiter, isReady, isClosed, staleIn, idleFor}
 use Rattle.definition.specs.Records.{Record, ConnectionCreated, ConnectionReady, ConnectionCheckedIn, ConnectionClosed, PoolReady, PoolCleared, PoolShut, Interrupt, Replied, Reply, Pooled, Establishing, Warmed, Cleared, Gone, told}
 use Rattle.definition.specs.Events.{bit}
 use Rattle.definition.specs.Steps.{Act, nothing, emit, emitAll, become, _>>_, serviced}
@@ -117,7 +117,7 @@ popBack p = become (withAvailable p (set (p .available) (p .availables - 1) 0) (
 -- a new connection in the first vacant slot: the next id, the current generation
 unfoldable pub createPendingConnection : ℕ → Act SlotPool
 createPendingConnection state p =
-    let i = place 0 64 (p .ids) in
+    let i = place 0 most (p .ids) in
     (do
       emit (ConnectionCreated (p .nextId))
       become (withCounts (withNextId (withTable p (set (p .ids) i (p .nextId)) (set (p .slots) i (record { generation = p .generation; time = p .clock; state = state }))) (p .nextId + 1)) (p .total + 1) (p .pendings + 1))

@@ -7,7 +7,7 @@ use lib.ListN.{length, getD, set, take, drop}
 use denote.Ref.{RefT, now}
 use denote.Triple.Both.{Both}
 use Rattle.definition.specs.Words.{_≤?_, _=?_}
-use Rattle.definition.specs.Pool.{Waiter}
+use Rattle.definition.specs.Pool.{queueLength, most, Waiter}
 use Rattle.definition.specs.declared.Options.{Options}
 use Rattle.definition.specs.declared.PoolState.{PoolState}
 use Rattle.slots.specs.declared.Head.{Head}
@@ -56,9 +56,9 @@ poolOf h cells times seats waiters = record {
   pendings = h .«pending_connection_count»;
   availables = h .«available_count»;
   waitings = h .«waiting_count»;
-  ids = take 64 cells;
-  slots = rows (drop 64 cells) times (take 64 seats);
-  available = drop 64 seats;
+  ids = take most cells;
+  slots = rows (drop most cells) times (take most seats);
+  available = drop most seats;
   waiters = waiters;
 }
 
@@ -81,7 +81,7 @@ after h cells times seats waiters = poolOf h (now (cells .exit)) (now (times .ex
 
 -- the columns have their lengths (what lies behind a reference is a list whose length nothing tells)
 pub record Whole (p : SlotPool) : Type 0 where
-  pub ids : length (p .ids) ≡ 64
-  pub slots : length (p .slots) ≡ 64
-  pub available : length (p .available) ≡ 64
-  pub waiters : length (p .waiters) ≡ 256
+  pub ids : length (p .ids) ≡ most
+  pub slots : length (p .slots) ≡ most
+  pub available : length (p .available) ≡ most
+  pub waiters : length (p .waiters) ≡ queueLength

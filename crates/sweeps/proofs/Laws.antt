@@ -9,7 +9,7 @@ use lib.ListN.{length, getD, set, take, drop, length-take, drop-of-length-le}
 use lib.Seq.{getD-take, drop-cons, length-take-le}
 use borrow.Author.Tests.{lt-ltb, le-ltb}
 use Rattle.definition.specs.Words.{if_then_else_, _<?_}
-use Rattle.definition.specs.Pool.{isReady}
+use Rattle.definition.specs.Pool.{most, isReady}
 use Rattle.definition.specs.Records.{Record, Reply, fieldsOf, told}
 use Rattle.definition.specs.Bytes.{serialOf, recordBytes}
 use Rattle.definition.specs.Steps.{Out, Act, _>>_}
@@ -155,7 +155,7 @@ pub record Filling (s k₀ n₀ : ℕ) (p : SlotPool) (out₀ : List ℕ) (o : O
   pub left : ℕ
   pub told : Told (fillUp k₀ p) s n₀ out₀ (fillUp left q) n out
   pub enough : o .minimum ≤ left + q .total
-  pub minimum : o .minimum ≤ 64
+  pub minimum : o .minimum ≤ most
   pub whole : Whole q
   pub held : taken (q .ids) ≤ q .total
   pub ids : q .nextId + left < 4294967295
@@ -165,7 +165,7 @@ pub record Filling (s k₀ n₀ : ℕ) (p : SlotPool) (out₀ : List ℕ) (o : O
   pub serial : q .serial ≡ s
   pub same : length out ≡ length out₀
 
-pub fill-start : (p : SlotPool) (n : ℕ) (out : List ℕ) → Whole p → CanFill p → Room 64 n out
+pub fill-start : (p : SlotPool) (n : ℕ) (out : List ℕ) → Whole p → CanFill p → Room most n out
     → Filling (p .serial) (p .options .minimum) n p out (p .options) n p out
 fill-start p n out w f r = record {
   left = p .options .minimum;
@@ -207,7 +207,7 @@ module _ {s k₀ n₀ : ℕ} {p₀ : SlotPool} {out₀ : List ℕ} {o : Options}
   pub fill-room : q .total < o .minimum → CanCreate q × Room 1 n out
   fill-room h = (
     record {
-      spot = vacant-place 64 (q .ids) (v .whole .ids) (omega (arith, v .held, v .minimum));
+      spot = vacant-place most (q .ids) (v .whole .ids) (omega (arith, v .held, v .minimum));
       ids = omega (arith, v .ids);
       total = omega (arith, v .minimum);
       pending = omega (arith, v .pending, v .minimum);

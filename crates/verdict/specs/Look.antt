@@ -6,7 +6,7 @@ use mathlib.Core.Option.{Option, none, some}
 use Prim.Native.Nat.{ℕ, _%_}
 use lib.ListN.{getD, take, drop}
 use Rattle.definition.specs.Words.{_<?_, _≤?_, _=?_}
-use Rattle.definition.specs.Pool.{isClosed, queueLength}
+use Rattle.definition.specs.Pool.{most, isClosed, queueLength}
 use Rattle.definition.specs.Steps.{kindNo, _to_holds_}
 use Rattle.definition.specs.Refusals.{Test, _if_, first, takenAfterClose, lastNextId, lastGeneration, wrongTime}
 use Rattle.definition.specs.declared.Event.{Event}
@@ -23,9 +23,9 @@ use Rattle.verdict.specs.declared.Bar.the-variants.{By, Open}
 
 -- what is found is the slot of the id, and what stands there
 pub record Looks (cells times seats : List ℕ) (id : ℕ) (f : Found) : Type 0 where
-  pub at : f .at ≡ place id 64 (take 64 cells)
-  pub state : f .state ≡ getD (rows (drop 64 cells) times (take 64 seats)) (f .at) vacant .state
-  pub time : f .time ≡ getD (rows (drop 64 cells) times (take 64 seats)) (f .at) vacant .time
+  pub at : f .at ≡ place id most (take most cells)
+  pub state : f .state ≡ getD (rows (drop most cells) times (take most seats)) (f .at) vacant .state
+  pub time : f .time ≡ getD (rows (drop most cells) times (take most seats)) (f .at) vacant .time
 
 abbrev pub barOf : Option Refusal → Bar
 barOf none = Open

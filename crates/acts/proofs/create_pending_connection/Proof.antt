@@ -3,6 +3,7 @@ use Prim.Native.Nat.{_<_}
 use native.Mathlib.Omega.{arith}
 use denote.Ref.{now}
 use lib.ListN.{take}
+use Rattle.definition.specs.Pool.{most}
 use Rattle.definition.specs.Steps.{_>>_}
 use Rattle.slots.specs.Order.{place}
 use Rattle.slots.specs.OrderLaws.{place-front}
@@ -19,10 +20,10 @@ use Rattle.table.proofs.emit.Reads as emit-reads
 use Rattle.table.proofs.find.Reads as find-reads
 
 -- the first vacant slot, and that there is one
-found : (c : tie.After-find) → c .find .result ≡ place 0 64 (take 64 (now (c .before .before .before .args .cells)))
-found c = c .find .ensures ∙ sym (place-front _ 0 64 64 _ (omega arith))
+found : (c : tie.After-find) → c .find .result ≡ place 0 most (take most (now (c .before .before .before .args .cells)))
+found c = c .find .ensures ∙ sym (place-front _ 0 most most _ (omega arith))
 
-low : (c : tie.After-find) → c .find .result < 64
+low : (c : tie.After-find) → c .find .result < most
 low c = omega (arith, found c, c .before .before .before .pre .1 .spot)
 
 find-requires : tie.Need-find-requires

@@ -1,11 +1,9 @@
 use mathlib.Core.Path.{_≡_, sym, subst, _∙_}
 use mathlib.Core.Bool.{true}
-use lib.ListN.{replicate}
 use Rattle.definition.specs.Pool.{inRange}
-use Rattle.slots.specs.View.{poolOf}
 use Rattle.slots.specs.declared.Head.{Head}
 use Rattle.refinement.specs.Stands.{Formed}
-use Rattle.refinement.specs.Formed.{fresh-parts, fresh-formed}
+use Rattle.refinement.specs.Formed.{overBlank, fresh-parts, fresh-formed}
 use borrow.Author.Needs.{needs}
 use Rattle.engine_main.proofs.play.Statement.{statement}
 use Rattle.engine_main.proofs.play.Tie as tie
@@ -35,7 +33,7 @@ slice-aggregate-all-2 c = search needs
 
 all-requires : tie.Need-all-requires
 all-requires c κs =
-    subst (λ (h : Head). Formed (poolOf h (replicate 128 0) (replicate 64 0) (replicate 128 0) (replicate 256 0))) (sym (c .before .before .before .before .before .before .fresh-head .ensures))
+    subst (λ (h : Head). Formed (overBlank h)) (sym (c .before .before .before .before .before .before .fresh-head .ensures))
     (subst Formed (sym (fresh-parts _)) (fresh-formed _ (sym (c .before .before .before .before .before .before .before .before .in-range .ensures) ∙ c .before .before .before .before .before .before .before .if1 .taken)))
 
 tell-requires : tie.Need-tell-requires

@@ -2,6 +2,7 @@ use lib.ListN.{length}
 use mathlib.Core.Path.{_≡_, refl}
 use Prim.Native.Nat.{_-_}
 use native.Mathlib.Omega.{arith}
+use Rattle.definition.specs.Pool.{most}
 use Rattle.pool.specs.Laws.{Taking, taking-more, taking-end}
 use borrow.Author.Needs.{needs}
 use Rattle.pool.proofs.columns.Statement.{statement}
@@ -11,7 +12,7 @@ abbrev Inv-loop : tie.InvT-loop
 Inv-loop slots available cells₀ times₀ seats₀ i₀ cells times seats i = Taking slots available i cells times seats
 
 abbrev μ-loop : tie.MeasureT-loop
-μ-loop slots available cells₀ times₀ seats₀ i₀ cells times seats i = 64 - i
+μ-loop slots available cells₀ times₀ seats₀ i₀ cells times seats i = most - i
 
 loop-holds : tie.Need-loop-holds Inv-loop μ-loop
 loop-holds c = record { some = omega arith; cellsLong = refl; timesLong = refl; seatsLong = refl; ids = refl; generations = refl; since = refl; states = refl; order = refl }
@@ -67,15 +68,15 @@ loop-less c = search needs
 loop-again : tie.Need-loop-again Inv-loop μ-loop
 loop-again c =
     let a = c .before .before .before .loop in let v = c .before .before .before .before .args in
-    let ls : length (v .t1) ≡ 64 = search needs in
-    let la : length (v .t2) ≡ 64 = search needs in
+    let ls : length (v .t1) ≡ most = search needs in
+    let la : length (v .t2) ≡ most = search needs in
     taking-more (v .t1) (v .t2) (a .i) (a .cells) (a .times) (a .seats) _ _ _ _ ls la (omega arith) (a .inv) refl (c .code-of .ensures) refl
 
 returns : tie.Need-returns Inv-loop μ-loop
 returns c =
     let a = c .before .loop in let v = c .before .before .args in
-    let ls : length (v .t1) ≡ 64 = search needs in
-    let la : length (v .t2) ≡ 64 = search needs in
+    let ls : length (v .t1) ≡ most = search needs in
+    let la : length (v .t2) ≡ most = search needs in
     taking-end (v .t1) (v .t2) (a .i) (a .cells) (a .times) (a .seats) ls la (omega (arith, a .inv .some)) (a .inv)
 
 pub columns-spec : {M : Type 1} → statement M

@@ -1,11 +1,10 @@
 use mathlib.Core.Path.{_≡_, refl, sym, ap, subst, _∙_}
 use denote.Ref.{now}
-use lib.ListN.{replicate}
 use Rattle.definition.specs.Pool.{inRange}
 use Rattle.definition.specs.Bytes.{optionsOfLine}
 use Rattle.slots.specs.View.{poolOf}
 use Rattle.slots.specs.declared.Head.{Head}
-use Rattle.refinement.specs.Formed.{freshHead}
+use Rattle.refinement.specs.Formed.{freshHead, overBlank}
 use Rattle.text.specs.Given.{optionsIn}
 use Rattle.replay.specs.declared.Taken.{Taken}
 use Rattle.replay.specs.Code.{Opens}
@@ -56,7 +55,7 @@ returns : tie.Need-returns
 returns c =
     let a = c .before .before .before .before .before .before .before .before .before .before .before .before .before .before .args in
     let d = c .before .before .before .before .before .before .before .with-defaults .ensures in
-    subst (λ (h : Head). Opens (a .pace) (poolOf (a .head) (now (a .cells)) (now (a .times)) (now (a .seats)) (now (a .waiters))) (optionsOfLine (now (a .l))) (now (a .o)) (now (a .o)) (goingPace (a .pace)) (poolOf h (replicate 128 0) (replicate 64 0) (replicate 128 0) (replicate 256 0)) 0)
+    subst (λ (h : Head). Opens (a .pace) (poolOf (a .head) (now (a .cells)) (now (a .times)) (now (a .seats)) (now (a .waiters))) (optionsOfLine (now (a .l))) (now (a .o)) (now (a .o)) (goingPace (a .pace)) (overBlank h) 0)
     (sym (c .fresh-head .ensures ∙ ap freshHead d))
     (opens-made (a .pace) (poolOf (a .head) (now (a .cells)) (now (a .times)) (now (a .seats)) (now (a .waiters))) (optionsOfLine (now (a .l))) (now (a .o)) (now (a .o)) (c .before .before .before .before .before .before .before .before .before .p .given .0 .0) (sym (c .before .before .before .before .before .before .before .before .before .before .before .line-options .ensures) ∙ ap optionsIn (c .before .before .before .before .before .before .before .before .before .p .given .1)) (sym (c .before .before .before .before .before .if1 .taken) ∙ c .before .before .before .before .before .before .in-range .ensures ∙ ap inRange d))
 

@@ -3,6 +3,7 @@ use Prim.Native.Nat.{_≤_, _-_}
 use native.Mathlib.Omega.{arith}
 use lib.ListN.{getD}
 use denote.Ref.{now}
+use Rattle.definition.specs.Pool.{most}
 use Rattle.refinement.specs.Kept.{isPending}
 use Rattle.refinement.specs.Rules.{isShelved}
 use Rattle.rules.specs.Tests.{tally, isTaken, countsRight}
@@ -12,10 +13,10 @@ use Rattle.rules.proofs.counts_right.Statement.{statement}
 use Rattle.rules.proofs.counts_right.Tie as tie
 
 abbrev Inv-loop : tie.InvT-loop
-Inv-loop seats total pending available taken₀ waits₀ shelved₀ i₀ taken waits shelved i = (i ≤ 64) × (taken ≡ tally i (λ j. isTaken (getD seats j 0))) × (waits ≡ tally i (λ j. isPending (getD seats j 0))) × (shelved ≡ tally i (λ j. isShelved (getD seats j 0)))
+Inv-loop seats total pending available taken₀ waits₀ shelved₀ i₀ taken waits shelved i = (i ≤ most) × (taken ≡ tally i (λ j. isTaken (getD seats j 0))) × (waits ≡ tally i (λ j. isPending (getD seats j 0))) × (shelved ≡ tally i (λ j. isShelved (getD seats j 0)))
 
 abbrev μ-loop : tie.MeasureT-loop
-μ-loop seats total pending available taken₀ waits₀ shelved₀ i₀ taken waits shelved i = 64 - i
+μ-loop seats total pending available taken₀ waits₀ shelved₀ i₀ taken waits shelved i = most - i
 
 loop-holds : tie.Need-loop-holds Inv-loop μ-loop
 loop-holds c = (search needs, tally-none _, tally-none _, tally-none _)
@@ -70,7 +71,7 @@ both-requires-2 c κs = search needs
 
 returns : tie.Need-returns Inv-loop μ-loop
 unfolding countsRight
-returns c = let e : c .before .before .before .loop .i ≡ 64 = omega arith in rw (← rw e at (c .before .before .before .loop .inv .1), ← rw e at (c .before .before .before .loop .inv .2), ← rw e at (c .before .before .before .loop .inv .3), ← c .before .both .ensures) (c .both2 .ensures)
+returns c = let e : c .before .before .before .loop .i ≡ most = omega arith in rw (← rw e at (c .before .before .before .loop .inv .1), ← rw e at (c .before .before .before .loop .inv .2), ← rw e at (c .before .before .before .loop .inv .3), ← c .before .both .ensures) (c .both2 .ensures)
 
 pub counts-right-spec : {M : Type 1} → statement M
 counts-right-spec =

@@ -4,6 +4,7 @@ use Prim.Native.Nat.{_≤_, _-_, _%_}
 use native.Mathlib.Omega.{arith}
 use lib.ListN.{length, getD, length-set}
 use denote.Ref.{now}
+use Rattle.definition.specs.Pool.{most}
 use Rattle.rules.specs.Tests.{every, idsDistinct, newId}
 use Rattle.rules.proofs.Laws.{every-none, every-grow, every-fails, Marked, no-clash, clash, marked-more}
 use borrow.Author.Needs.{needs}
@@ -11,10 +12,10 @@ use Rattle.rules.proofs.ids_distinct.Statement.{statement}
 use Rattle.rules.proofs.ids_distinct.Tie as tie
 
 abbrev Inv-loop : tie.InvT-loop
-Inv-loop cells marks₀ i₀ marks i = (i ≤ 64) × (length marks ≡ 256) × (true ≡ every i (newId cells)) × Marked cells i marks
+Inv-loop cells marks₀ i₀ marks i = (i ≤ most) × (length marks ≡ 256) × (true ≡ every i (newId cells)) × Marked cells i marks
 
 abbrev μ-loop : tie.MeasureT-loop
-μ-loop cells marks₀ i₀ marks i = 64 - i
+μ-loop cells marks₀ i₀ marks i = most - i
 
 loop-holds : tie.Need-loop-holds Inv-loop μ-loop
 loop-holds c = (search needs, refl, every-none _, λ j h. absurd (omega arith))
@@ -39,7 +40,7 @@ unfolding idsDistinct
 returns c =
     let a = c .before .before .before .before .before .args .cells .now in
     let i = c .before .before .before .before .loop .i in
-    every-fails 64 i _ (search needs) (clash i (getD (c .before .before .before .before .loop .marks) (getD a i 0 % 256) 0) a (c .before .clashes .result) (c .before .clashes .ensures) (c .if1 .taken))
+    every-fails most i _ (search needs) (clash i (getD (c .before .before .before .before .loop .marks) (getD a i 0 % 256) 0) a (c .before .clashes .result) (c .before .clashes .ensures) (c .if1 .taken))
 
 array-write-marks : tie.Need-array-write-marks Inv-loop μ-loop
 array-write-marks c = search needs
@@ -60,7 +61,7 @@ loop-again c =
 
 returns-2 : tie.Need-returns-2 Inv-loop μ-loop
 unfolding idsDistinct
-returns-2 c = let e : c .before .loop .i ≡ 64 = omega arith in rw e at (c .before .loop .inv .2)
+returns-2 c = let e : c .before .loop .i ≡ most = omega arith in rw e at (c .before .loop .inv .2)
 
 pub ids-distinct-spec : {M : Type 1} → statement M
 ids-distinct-spec =

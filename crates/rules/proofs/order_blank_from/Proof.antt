@@ -4,6 +4,7 @@ use native.Mathlib.Omega.{arith}
 use lib.ListN.{getD, drop}
 use lib.Seq.{getD-drop}
 use denote.Ref.{now}
+use Rattle.definition.specs.Pool.{most}
 use Rattle.rules.specs.Tests.{every, blankPast, blankFrom}
 use Rattle.rules.proofs.Laws.{every-more, every-none}
 use borrow.Author.Needs.{needs}
@@ -11,10 +12,10 @@ use Rattle.rules.proofs.order_blank_from.Statement.{statement}
 use Rattle.rules.proofs.order_blank_from.Tie as tie
 
 abbrev Inv-loop : tie.InvT-loop
-Inv-loop seats n ok₀ i₀ ok i = (i ≤ 64) × (ok ≡ every i (λ j. blankPast n j (getD (drop 64 seats) j 0)))
+Inv-loop seats n ok₀ i₀ ok i = (i ≤ most) × (ok ≡ every i (λ j. blankPast n j (getD (drop most seats) j 0)))
 
 abbrev μ-loop : tie.MeasureT-loop
-μ-loop seats n ok₀ i₀ ok i = 64 - i
+μ-loop seats n ok₀ i₀ ok i = most - i
 
 loop-holds : tie.Need-loop-holds Inv-loop μ-loop
 loop-holds c = (search needs, every-none _)
@@ -44,11 +45,11 @@ loop-again : tie.Need-loop-again Inv-loop μ-loop
 loop-again c =
     let a = c .before .before .before .before .before .before .args in
     let i = c .before .before .before .before .before .loop .i in
-    (search needs, every-more _ _ _ _ _ (c .before .before .before .before .before .loop .inv .1) (c .before .blank-past .ensures ∙ ap (λ (x : ℕ). blankPast (a .n) i x) (c .before .before .long .ensures ∙ sym (getD-drop 64 (a .seats .now) i 0))) (c .both .ensures))
+    (search needs, every-more _ _ _ _ _ (c .before .before .before .before .before .loop .inv .1) (c .before .blank-past .ensures ∙ ap (λ (x : ℕ). blankPast (a .n) i x) (c .before .before .long .ensures ∙ sym (getD-drop most (a .seats .now) i 0))) (c .both .ensures))
 
 returns : tie.Need-returns Inv-loop μ-loop
 unfolding blankFrom
-returns c = let e : c .before .loop .i ≡ 64 = omega arith in rw e at (c .before .loop .inv .1)
+returns c = let e : c .before .loop .i ≡ most = omega arith in rw e at (c .before .loop .inv .1)
 
 pub order-blank-from-spec : {M : Type 1} → statement M
 order-blank-from-spec =

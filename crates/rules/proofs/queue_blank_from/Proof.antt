@@ -3,6 +3,7 @@ use mathlib.Core.Logic.{⊎-elim}
 use Prim.Native.Nat.{_≤_, _-_}
 use native.Mathlib.Omega.{arith}
 use lib.ListN.{getD}
+use Rattle.definition.specs.Pool.{queueLength}
 use Rattle.rules.specs.Tests.{every, blankPast, blankFrom}
 use Rattle.rules.proofs.Laws.{blank-before, blank-lost, blank-kept}
 use borrow.Author.Needs.{needs}
@@ -12,14 +13,14 @@ use Rattle.rules.proofs.queue_blank_from.Reads as reads
 use Rattle.rules.proofs.queue_blank_from.Lts as lts
 
 abbrev Inv-loop : tie.InvT-loop
-Inv-loop waiters n ok₀ i₀ ok i = (n ≤ i) × (i ≤ 256) × (ok ≡ every i (λ j. blankPast n j (getD waiters j 0)))
+Inv-loop waiters n ok₀ i₀ ok i = (n ≤ i) × (i ≤ queueLength) × (ok ≡ every i (λ j. blankPast n j (getD waiters j 0)))
 
 abbrev μ-loop : tie.MeasureT-loop
-μ-loop waiters n ok₀ i₀ ok i = 256 - i
+μ-loop waiters n ok₀ i₀ ok i = queueLength - i
 
 returns : tie.Need-returns Inv-loop μ-loop
 unfolding blankFrom
-returns c = let a = c .before .args in blank-before (a .n) (a .waiters .now) 256 (omega (arith, c .if1 .taken))
+returns c = let a = c .before .args in blank-before (a .n) (a .waiters .now) queueLength (omega (arith, c .if1 .taken))
 
 loop-holds : tie.Need-loop-holds Inv-loop μ-loop
 loop-holds c = let a = c .before .args in (omega arith, omega arith, blank-before (a .n) (a .waiters .now) (a .n) (omega arith))
@@ -44,7 +45,7 @@ loop-again c =
 
 returns-2 : tie.Need-returns-2 Inv-loop μ-loop
 unfolding blankFrom
-returns-2 c = let e : c .before .loop .i ≡ 256 = omega arith in rw e at (c .before .loop .inv .2)
+returns-2 c = let e : c .before .loop .i ≡ queueLength = omega arith in rw e at (c .before .loop .inv .2)
 
 pub queue-blank-from-spec : {M : Type 1} → statement M
 queue-blank-from-spec =

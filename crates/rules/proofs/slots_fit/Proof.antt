@@ -2,6 +2,7 @@ use mathlib.Core.Path.{_≡_}
 use Prim.Native.Nat.{_≤_, _-_, _+_}
 use native.Mathlib.Omega.{arith}
 use lib.ListN.{getD}
+use Rattle.definition.specs.Pool.{most}
 use Rattle.rules.specs.Tests.{every, slotFits, slotsFit}
 use Rattle.rules.proofs.Laws.{every-more, every-none}
 use borrow.Author.Needs.{needs}
@@ -9,10 +10,10 @@ use Rattle.rules.proofs.slots_fit.Statement.{statement}
 use Rattle.rules.proofs.slots_fit.Tie as tie
 
 abbrev Inv-loop : tie.InvT-loop
-Inv-loop cells times seats ok₀ i₀ ok i = (i ≤ 64) × (ok ≡ every i (λ j. slotFits (getD cells j 0) (getD cells (64 + j) 0) (getD times j 0) (getD seats j 0)))
+Inv-loop cells times seats ok₀ i₀ ok i = (i ≤ most) × (ok ≡ every i (λ j. slotFits (getD cells j 0) (getD cells (most + j) 0) (getD times j 0) (getD seats j 0)))
 
 abbrev μ-loop : tie.MeasureT-loop
-μ-loop cells times seats ok₀ i₀ ok i = 64 - i
+μ-loop cells times seats ok₀ i₀ ok i = most - i
 
 loop-holds : tie.Need-loop-holds Inv-loop μ-loop
 loop-holds c = (search needs, every-none _)
@@ -58,7 +59,7 @@ loop-again c = (search needs, every-more _ _ _ _ _ (c .before .before .before .b
 
 returns : tie.Need-returns Inv-loop μ-loop
 unfolding slotsFit
-returns c = let e : c .before .loop .i ≡ 64 = omega arith in rw e at (c .before .loop .inv .1)
+returns c = let e : c .before .loop .i ≡ most = omega arith in rw e at (c .before .loop .inv .1)
 
 pub slots-fit-spec : {M : Type 1} → statement M
 slots-fit-spec =

@@ -2,6 +2,7 @@ use mathlib.Core.Path.{_≡_, refl, sym, _∙_}
 use Prim.Native.Nat.{_-_, _<_}
 use native.Mathlib.Omega.{arith}
 use lib.ListN.{getD}
+use Rattle.definition.specs.Pool.{most}
 use Rattle.slots.specs.View.{SlotPool, poolOf, waiterOf}
 use Rattle.slots.specs.Parts.{available-at}
 use Rattle.slots.specs.DoneLaws.{told-start}
@@ -33,7 +34,7 @@ at l = poolOf (l .loop .h) (l .loop .cells) (l .loop .times) (l .loop .seats) (l
 back : (c : tie.After-wide Inv-loop μ-loop) → c .wide .result ≡ getD (at (c .before .before .before) .available) (c .before .before .before .loop .k - 1) 0
 back c = let l = c .before .before .before .loop in c .wide .ensures ∙ sym (available-at (l .h) (l .cells) (l .times) (l .seats) (l .waiters) (l .k - 1))
 
-inside : (c : tie.After-wide Inv-loop μ-loop) → c .wide .result < 64
+inside : (c : tie.After-wide Inv-loop μ-loop) → c .wide .result < most
 inside c = omega (arith, back c, c .before .before .before .loop .inv .safe .prune .listed (c .before .before .before .loop .k - 1))
 
 -- why it is closed

@@ -2,6 +2,7 @@ use mathlib.Core.Path.{_≡_, sym, _∙_}
 use Prim.Native.Nat.{_<_}
 use native.Mathlib.Omega.{arith}
 use lib.ListN.{getD}
+use Rattle.definition.specs.Pool.{most}
 use Rattle.slots.specs.View.{SlotPool, poolOf}
 use Rattle.slots.specs.DoneLaws.{told-done}
 use Rattle.slots.specs.Codes.{reasonOf}
@@ -29,7 +30,7 @@ front c =
     let l = c .before .before .before .loop in
     c .wide .ensures ∙ sym (available-at (l .h) (l .cells) (l .times) (l .seats) (l .waiters) 0)
 
-inside : (c : tie.After-wide Inv-loop μ-loop) → c .wide .result < 64
+inside : (c : tie.After-wide Inv-loop μ-loop) → c .wide .result < most
 inside c = omega (arith, front c, c .before .before .before .loop .inv .safe .listed 0)
 
 -- why it is closed

@@ -1,13 +1,14 @@
 use mathlib.Core.Path.{refl}
 use Prim.Native.Nat.{_-_}
 use native.Mathlib.Omega.{arith}
+use Rattle.definition.specs.Pool.{most}
 use Rattle.table.proofs.Laws.{Shifting, shifting-step, shifting-end}
 use borrow.Author.Needs.{needs}
 use Rattle.table.proofs.shift_order.Statement.{statement}
 use Rattle.table.proofs.shift_order.Tie as tie
 
 abbrev Inv-loop : tie.InvT-loop
-Inv-loop seats₀ n i₀ seats i = Shifting 64 n seats₀ seats i
+Inv-loop seats₀ n i₀ seats i = Shifting most n seats₀ seats i
 
 abbrev μ-loop : tie.MeasureT-loop
 μ-loop seats₀ n i₀ seats i = n - i

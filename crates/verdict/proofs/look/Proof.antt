@@ -3,6 +3,7 @@ use Prim.Native.Nat.{ℕ, _≤_, _<_}
 use native.Mathlib.Omega.{arith}
 use denote.Ref.{now}
 use lib.ListN.{length, getD, take, drop, List·getD-eq-default}
+use Rattle.definition.specs.Pool.{most}
 use Rattle.slots.specs.Order.{place}
 use Rattle.slots.specs.OrderLaws.{place-front}
 use Rattle.slots.specs.View.{Slot, rows}
@@ -16,8 +17,8 @@ use Rattle.verdict.proofs.look.Reads as reads
 use Rattle.verdict.proofs.look.Lts as lts
 use Rattle.table.proofs.find.Reads as find-reads
 
-found : (c : tie.After-find) → c .find .result ≡ place (c .before .args .id) 64 (take 64 (now (c .before .args .cells)))
-found c = c .find .ensures ∙ sym (place-front _ _ 64 64 _ (omega arith))
+found : (c : tie.After-find) → c .find .result ≡ place (c .before .args .id) most (take most (now (c .before .args .cells)))
+found c = c .find .ensures ∙ sym (place-front _ _ most most _ (omega arith))
 
 find-requires : tie.Need-find-requires
 find-requires c κs = search needs
@@ -35,11 +36,11 @@ returns : tie.Need-returns
 returns c =
     let a = c .before .before .before .before .args in
     let i = c .before .before .before .find .result in
-    let low : i < 64 = c .before .before .if1 .taken in
-    let r = row-at (drop 64 (now (a .cells))) (now (a .times)) (take 64 (now (a .seats))) i (omega (arith, c .before .before .before .before .pre)) in
+    let low : i < most = c .before .before .if1 .taken in
+    let r = row-at (drop most (now (a .cells))) (now (a .times)) (take most (now (a .seats))) i (omega (arith, c .before .before .before .before .pre)) in
     record {
       at = found (c .before .before .before);
-      state = sym (ap (λ (s : Slot). s .state) r ∙ getD-take 64 (now (a .seats)) i 0 low);
+      state = sym (ap (λ (s : Slot). s .state) r ∙ getD-take most (now (a .seats)) i 0 low);
       time = sym (ap (λ (s : Slot). s .time) r);
     }
 
@@ -47,7 +48,7 @@ returns-2 : tie.Need-returns-2
 returns-2 c =
     let a = c .before .before .args in
     let i = c .before .find .result in
-    let e = List·getD-eq-default (rows (drop 64 (now (a .cells))) (now (a .times)) (take 64 (now (a .seats)))) vacant {n = i} (omega (arith, c .before .before .pre, c .if1 .left)) in
+    let e = List·getD-eq-default (rows (drop most (now (a .cells))) (now (a .times)) (take most (now (a .seats)))) vacant {n = i} (omega (arith, c .before .before .pre, c .if1 .left)) in
     record {
       at = found (c .before);
       state = sym (ap (λ (s : Slot). s .state) e);

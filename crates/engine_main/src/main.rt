@@ -1,46 +1,23 @@
 // The engine without text, for the benchmark: frames on standard input, 24 bytes each, the first of them the options. Tells
 // the frames refused and the records written.
-//
-//     engine_main [entry]
-//
-// With a word each frame goes through the entry point, which takes the pool by value and tests its structure.
 ghost use Rattle.slots.specs.View.{given, before, after};
 ghost use Rattle.refinement.specs.Stands.{Formed};
 use definition::Options;
 use libc::STDIN_FILENO;
 use libc::STDOUT_FILENO;
-use pool::Pool;
 use slots::Cells;
 use slots::Head;
-use slots::Outcome;
 use slots::QUEUE;
 use slots::SLOTS;
 use slots::Seats;
 use slots::Times;
 use slots::Waiters;
+use tally::Tally;
 use text::Given;
-
-struct Tally {
-    refused: u64,
-    records: u64,
-}
 
 struct Ran {
     head: Head,
     tally: Tally,
-}
-
-fn counted(tally: Tally, outcome: Outcome) -> Tally {
-    let mut t = tally;
-    match outcome {
-        Outcome::Refused(_) => {
-            t.refused = std::num::wrapping_add_u64(t.refused, 1);
-        }
-        Outcome::Accepted(n) => {
-            t.records = std::num::wrapping_add_u64(t.records, n as u64);
-        }
-    }
-    t
 }
 
 // Frame after frame. The pool's structure is not tested: it is formed, and stays so.
@@ -65,7 +42,7 @@ fn run(
         let a = event::call(h, cells, times, seats, waiters, out, f);
         h = a.head;
         let o = a.outcome;
-        t = counted(t, o);
+        t = tally::counted(t, o);
         at += 24;
     }
     Ran { head: h, tally: t }
@@ -84,10 +61,7 @@ fn all(
     requires { ⌜ Formed (given head cells times seats waiters) ⌝ }
 {
     let mut h = head;
-    let mut t = Tally {
-        refused: 0,
-        records: 0,
-    };
+    let mut t = tally::none();
     let mut turns = u64::MAX;
     while turns > 0 {
         let n = io::read_full(STDIN_FILENO, buf);
@@ -100,53 +74,6 @@ fn all(
         turns -= 1;
     }
     t
-}
-
-struct Entered {
-    pool: Pool,
-    tally: Tally,
-}
-
-// Frame after frame through the entry point.
-fn enter(pool: Pool, frames: &[u8], tally: Tally, out: &mut [u8]) -> Entered {
-    let mut p = pool;
-    let mut t = tally;
-    let mut at: usize = 0;
-    while 24 <= frames.len() - at {
-        let s = entry::step(p, &frames[at..at + 24], out);
-        p = s.pool;
-        let o = s.outcome;
-        t = counted(t, o);
-        at += 24;
-    }
-    Entered { pool: p, tally: t }
-}
-
-fn enter_all(pool: Pool, buf: &mut [u8], out: &mut [u8]) -> Tally {
-    let mut p = pool;
-    let mut t = Tally {
-        refused: 0,
-        records: 0,
-    };
-    let mut turns = u64::MAX;
-    while turns > 0 {
-        let n = io::read_full(STDIN_FILENO, buf);
-        if n == 0 {
-            return t;
-        }
-        let r = enter(p, &buf[..n], t, out);
-        p = r.pool;
-        t = r.tally;
-        turns -= 1;
-    }
-    t
-}
-
-fn tell(t: Tally) {
-    io::print_decimal(STDOUT_FILENO, t.refused);
-    io::write_all(STDOUT_FILENO, b" refused, ");
-    io::print_decimal(STDOUT_FILENO, t.records);
-    io::write_all(STDOUT_FILENO, b" records\n");
 }
 
 fn play(options: Options) {
@@ -168,32 +95,17 @@ fn play(options: Options) {
             &mut buf,
             &mut out,
         );
-        tell(t);
+        tally::tell(t);
     } else {
         io::write_all(STDOUT_FILENO, b"options out of range\n");
     }
-}
-
-fn call(options: Options) {
-    let m = Pool::new(options);
-    let p = m.pool;
-    let mut buf = [0u8; 61440];
-    let mut out = [0u8; 8192];
-    let t = enter_all(p, &mut buf, &mut out);
-    tell(t);
 }
 
 fn main() {
     let mut first = [0u8; 24];
     let n = io::read_full(STDIN_FILENO, &mut first);
     match text::options_of(&first[..n]) {
-        Given::Options(o) => {
-            if os::arg_count() < 2 {
-                play(o);
-            } else {
-                call(o);
-            }
-        }
+        Given::Options(o) => play(o),
         Given::Malformed => {
             io::write_all(STDOUT_FILENO, b"no options\n");
         }

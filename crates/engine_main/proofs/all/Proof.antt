@@ -17,6 +17,9 @@ Inv-loop cells₀ times₀ seats₀ waiters₀ buf₀ out₀ h₀ t₀ turns₀ 
 abbrev μ-loop : tie.MeasureT-loop
 μ-loop cells₀ times₀ seats₀ waiters₀ buf₀ out₀ h₀ t₀ turns₀ cells times seats waiters buf out h t turns = turns
 
+none-requires : tie.Need-none-requires Inv-loop μ-loop
+none-requires c κs = search needs
+
 loop-holds : tie.Need-loop-holds Inv-loop μ-loop
 loop-holds c = (refl, refl, search needs)
 
@@ -68,6 +71,7 @@ all-spec =
     (tie.spec
     Inv-loop
     μ-loop
+    none-requires
     loop-holds
     read-full-requires
     same-length

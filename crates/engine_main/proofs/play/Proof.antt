@@ -10,7 +10,7 @@ use Rattle.engine_main.proofs.play.Tie as tie
 use Rattle.engine_main.proofs.play.Reads as reads
 use Rattle.engine_main.proofs.play.Lts as lts
 use Rattle.engine_main.proofs.all.Reads as all-reads
-use Rattle.engine_main.proofs.tell.Reads as tell-reads
+use Rattle.tally.proofs.tell.Reads as tell-reads
 use Rattle.io.proofs.write_all.Reads as write-all-reads
 use Rattle.pool.proofs.fresh_head.Reads as fresh-head-reads
 use Rattle.pool.proofs.in_range.Reads as in-range-reads

@@ -11,7 +11,7 @@ use Rattle.engine_main.proofs.run.Statement.{statement}
 use Rattle.engine_main.proofs.run.Tie as tie
 use Rattle.engine_main.proofs.run.Reads as reads
 use Rattle.engine_main.proofs.run.Lts as lts
-use Rattle.engine_main.proofs.counted.Reads as counted-reads
+use Rattle.tally.proofs.counted.Reads as counted-reads
 use Rattle.event.proofs.call.Reads as call-reads
 use Rattle.text.proofs.frame_of.Reads as frame-of-reads
 

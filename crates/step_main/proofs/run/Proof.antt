@@ -3,11 +3,11 @@ use Prim.Native.Nat.{_≤_, _-_}
 use native.Mathlib.Omega.{arith}
 use lib.ListN.{length}
 use borrow.Author.Needs.{needs}
-use Rattle.engine_main.proofs.enter.Statement.{statement}
-use Rattle.engine_main.proofs.enter.Tie as tie
-use Rattle.engine_main.proofs.enter.Reads as reads
-use Rattle.engine_main.proofs.enter.Lts as lts
-use Rattle.engine_main.proofs.counted.Reads as counted-reads
+use Rattle.step_main.proofs.run.Statement.{statement}
+use Rattle.step_main.proofs.run.Tie as tie
+use Rattle.step_main.proofs.run.Reads as reads
+use Rattle.step_main.proofs.run.Lts as lts
+use Rattle.tally.proofs.counted.Reads as counted-reads
 use Rattle.entry.proofs.step.Reads as step-reads
 
 abbrev Inv-loop : tie.InvT-loop
@@ -55,8 +55,8 @@ same-length c = search needs
 returns : tie.Need-returns Inv-loop μ-loop
 returns c = search needs
 
-pub enter-spec : {M : Type 1} → statement M
-enter-spec =
+pub run-spec : {M : Type 1} → statement M
+run-spec =
     tie.close
     (tie.spec
     Inv-loop

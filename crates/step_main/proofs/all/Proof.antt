@@ -1,11 +1,11 @@
 use mathlib.Core.Path.{_≡_, refl, _∙_}
 use lib.ListN.{length}
 use borrow.Author.Needs.{needs}
-use Rattle.engine_main.proofs.enter_all.Statement.{statement}
-use Rattle.engine_main.proofs.enter_all.Tie as tie
-use Rattle.engine_main.proofs.enter_all.Reads as reads
-use Rattle.engine_main.proofs.enter_all.Lts as lts
-use Rattle.engine_main.proofs.enter.Reads as enter-reads
+use Rattle.step_main.proofs.all.Statement.{statement}
+use Rattle.step_main.proofs.all.Tie as tie
+use Rattle.step_main.proofs.all.Reads as reads
+use Rattle.step_main.proofs.all.Lts as lts
+use Rattle.step_main.proofs.run.Reads as run-reads
 use Rattle.io.proofs.read_full.Reads as read-full-reads
 
 abbrev Inv-loop : tie.InvT-loop
@@ -13,6 +13,9 @@ Inv-loop buf₀ out₀ p₀ t₀ turns₀ buf out p t turns = (length buf ≡ le
 
 abbrev μ-loop : tie.MeasureT-loop
 μ-loop buf₀ out₀ p₀ t₀ turns₀ buf out p t turns = turns
+
+none-requires : tie.Need-none-requires Inv-loop μ-loop
+none-requires c κs = search needs
 
 loop-holds : tie.Need-loop-holds Inv-loop μ-loop
 loop-holds c = (refl, refl)
@@ -29,14 +32,14 @@ same-length-2 c = search needs
 returns : tie.Need-returns Inv-loop μ-loop
 returns c = search needs
 
-slice-reshare-prefix-enter : tie.Need-slice-reshare-prefix-enter Inv-loop μ-loop
-slice-reshare-prefix-enter c = search needs
+slice-reshare-prefix-run : tie.Need-slice-reshare-prefix-run Inv-loop μ-loop
+slice-reshare-prefix-run c = search needs
 
-slice-aggregate-enter : tie.Need-slice-aggregate-enter Inv-loop μ-loop
-slice-aggregate-enter c = search needs
+slice-aggregate-run : tie.Need-slice-aggregate-run Inv-loop μ-loop
+slice-aggregate-run c = search needs
 
-enter-requires : tie.Need-enter-requires Inv-loop μ-loop
-enter-requires c κs = search needs
+run-requires : tie.Need-run-requires Inv-loop μ-loop
+run-requires c κs = search needs
 
 sub-turns : tie.Need-sub-turns Inv-loop μ-loop
 sub-turns c = search needs
@@ -56,20 +59,21 @@ same-length-4 c = search needs
 returns-2 : tie.Need-returns-2 Inv-loop μ-loop
 returns-2 c = search needs
 
-pub enter-all-spec : {M : Type 1} → statement M
-enter-all-spec =
+pub all-spec : {M : Type 1} → statement M
+all-spec =
     tie.close
     (tie.spec
     Inv-loop
     μ-loop
+    none-requires
     loop-holds
     read-full-requires
     same-length
     same-length-2
     returns
-    slice-reshare-prefix-enter
-    slice-aggregate-enter
-    enter-requires
+    slice-reshare-prefix-run
+    slice-aggregate-run
+    run-requires
     sub-turns
     loop-less
     loop-again

@@ -7,6 +7,7 @@ pub mod Steps
 pub mod Refusals
 pub mod Bytes
 pub mod Day
+pub mod Laws
 pub mod HexLaws
 pub mod RoundTrip
 pub mod Cases

@@ -6,6 +6,7 @@ use Prim.Native.Nat.{ℕ, _+_, _≤_, _<_}
 use native.Mathlib.Omega.{arith}
 use lib.ListN.{length}
 use borrow.Author.Tests.{lt-ltb, le-ltb, eq-eqb}
+use Rattle.refinement.specs.Table.{by-bool, or-right}
 use Rattle.definition.specs.Words.{if_then_else_, _=?_, _<?_}
 use Rattle.definition.specs.Pool.{isClosed}
 use Rattle.definition.specs.Steps.{Out, nothing, kindNo, serviced}
@@ -34,14 +35,6 @@ use Rattle.event.specs.Asks.{Asks}
 
 -- ── What the stages ask ────────────────────────────────────────────────────────────────────────────────────────────────
 
-by-closed : {A : Type 0} (b : Bool) → (b ≡ true → A) → (b ≡ false → A) → A
-by-closed true f g = f refl
-by-closed false f g = g refl
-
-or-right : (a b : Bool) → (a || b) ≡ false → b ≡ false
-or-right true b h = absurd (true≢false h)
-or-right false b h = h
-
 module _ (p : SlotPool) (e : Event) (now : ℕ) (f : Formed p) (h : Passed p e now) (i : ℕ) (at : i ≡ target p e) where
   pub asks : Asks e i (withClock p now)
   asks = record {
@@ -49,7 +42,7 @@ module _ (p : SlotPool) (e : Event) (now : ℕ) (f : Formed p) (h : Passed p e n
     stands = clock-stands now (f .stands);
     fit = fit-clock now p i e (subst (λ (x : ℕ). Fit e p x) (sym at) (h .fit));
     ids = λ k. ids-left p e now h
-        (by-closed (isClosed (p .state)) (λ c. absurd (false≢true (rw k at (closed-takes p e now h c)))) (λ c. c))
+        (by-bool (isClosed (p .state)) (λ c. absurd (false≢true (rw k at (closed-takes p e now h c)))) (λ c. c))
         (rw k);
     generation = λ k g. absurd (true≢false (rw (k, g) at (or-right (not (isClosed (p .state)) && not (kindNo e =? 15) && lastNextId <? p .nextId) _ (h .numbers))));
   }

@@ -6,6 +6,7 @@ use mathlib.Core.Option.{Option, none, some}
 use Prim.Native.Nat.{ℕ}
 use native.Mathlib.Omega.{arith}
 use borrow.Author.Tests.{not-false}
+use Rattle.definition.specs.Laws.{not-first}
 use Rattle.definition.specs.Words.{if_then_else_}
 use Rattle.definition.specs.Pool.{Pool, isClosed, has, withClock}
 use Rattle.definition.specs.Steps.{event}
@@ -23,11 +24,6 @@ and-left false b h = h
 pub and-right : (a b : Bool) → a && b ≡ true → b ≡ true
 and-right true b h = h
 and-right false b h = absurd (false≢true h)
-
-pub not-first : (r : Refusal) (b : Bool) (ts : List Test) → first ((r if b) ∷ ts) ≡ none → (b ≡ false) × (first ts ≡ none)
-unfolding if_then_else_ first
-not-first r true ts e = let z : _≡_ {A = ℕ} 0 1 = cc in absurd (omega arith)
-not-first r false ts e = (refl, e)
 
 abbrev pub Passed : Pool → Event → (now room : ℕ) → Type 0
 Passed p e now room = first (tests p (Good e now) room) ≡ none

@@ -4,6 +4,7 @@ use mathlib.Core.Bool.{Bool, true, false}
 use mathlib.Core.List.{List, [], _∷_, _++_, map, reverse, append-assoc, map-append}
 use Prim.Native.Nat.{ℕ, zero, suc, _+_}
 use native.Mathlib.Omega.{arith}
+use Rattle.definition.specs.Laws.{find-id}
 use Rattle.definition.specs.Words.{if_then_else_}
 use Rattle.definition.specs.Pool.{Pool, Conn, Waiter, has, find, withClock, withAvailable, fresh}
 use Rattle.definition.specs.Records.{Record, ConnectionClosed, Reply, told}
@@ -22,7 +23,7 @@ use Rattle.definition.specs.declared.ClosedReason.the-variants.{PoolClosed}
 use Rattle.definition.specs.Log.{created, closed, numbers, sumOf}
 use Rattle.promises.specs.Runs.{next}
 use Rattle.promises.specs.Calls.{Passed, Named, Stepped, no-step, a-step, stepped, passed-named}
-use Rattle.promises.specs.Sums.{sum-append, sum-reverse, find-number, sum-without, turn-numbers}
+use Rattle.promises.specs.Sums.{sum-append, sum-reverse, sum-without, turn-numbers}
 
 pub created-append : (a b : List Record) → created (a ++ b) ≡ created a ++ created b
 created-append [] b = refl
@@ -144,17 +145,17 @@ checkIn-moves n errored executing letGo p h =
     moves-then _ _ _ (leaveLent-moves n p h)
     (moves-if _ _ _ (λ _. close-moves _ n _)
     (λ _. moves-then _ _ _ (still _ _ refl refl refl refl refl)
-    (search (moves-if, close-moves, shelve-moves, find-number) depth 8)))
+    (search (moves-if, close-moves, shelve-moves, find-id) depth 8)))
 
 succeeded-moves : (n : ℕ) (p : Pool) → has n (p .pending) ≡ true → Moves [] [] p (succeeded n p)
 unfolding succeeded
 succeeded-moves n p h =
-    moves-then _ _ _ (still _ _ refl refl refl refl refl) (moves-then _ _ _ (leavePending-moves n p h) (lendOut-moves (find n (p .pending)) n _ (find-number n (p .pending))))
+    moves-then _ _ _ (still _ _ refl refl refl refl refl) (moves-then _ _ _ (leavePending-moves n p h) (lendOut-moves (find n (p .pending)) n _ (find-id n (p .pending))))
 
 succeededForPool-moves : (n opened : ℕ) (p : Pool) → has n (p .pending) ≡ true → Moves [] [] p (succeededForPool n opened p)
 unfolding succeededForPool
 succeededForPool-moves n opened p h =
-    moves-then _ _ _ (still _ _ refl refl refl refl refl) (moves-then _ _ _ (leavePending-moves n p h) (search (moves-if, close-moves, shelve-moves, find-number)))
+    moves-then _ _ _ (still _ _ refl refl refl refl refl) (moves-then _ _ _ (leavePending-moves n p h) (search (moves-if, close-moves, shelve-moves, find-id)))
 
 failed-moves : (n : ℕ) (p : Pool) → has n (p .pending) ≡ true → Moves [] [] p (failed n p)
 unfolding failed

@@ -7,6 +7,7 @@ use Prim.Native.Nat.{ℕ, zero, suc, _+_}
 use lib.ListN.{length, length-append}
 use native.Mathlib.Omega.{arith}
 use borrow.Author.Tests.{leb-false}
+use Rattle.definition.specs.Laws.{not-first}
 use Rattle.definition.specs.Words.{if_then_else_}
 use Rattle.definition.specs.Pool.{Pool, Conn, Waiter, withClock}
 use Rattle.definition.specs.Steps.{Out, Act, _>>_, leaveLent, leavePending, shelve, lendOut, createPendingConnection, createMany, closePerished, tellAll, mode, queue, request, abandon, checkIn, clear, markAsReady, succeeded, succeededForPool, failed, removePerished, ensureMinConnections, maintenance, repin, shut, own, establish, lend, takeAvailable, checkOut, serveFront, service, event}
@@ -18,7 +19,7 @@ use Rattle.definition.specs.declared.PoolState.{PoolState}
 use Rattle.definition.specs.declared.PoolState.the-variants.{New, Paused, Ready, Closed}
 use Rattle.definition.specs.Log.{Rising}
 use Rattle.promises.specs.Runs.{arrivals, taken, accepted, next}
-use Rattle.promises.specs.Calls.{not-first, Stepped, no-step, a-step, stepped, passed-kind}
+use Rattle.promises.specs.Calls.{Stepped, no-step, a-step, stepped, passed-kind}
 
 -- the last of them; where there is none, m
 abbrev lastOf : List ℕ → ℕ → ℕ

@@ -27,10 +27,6 @@ unfolding sumOf
 sum-reverse w [] = refl
 sum-reverse w (c ∷ l) = rw (reverse-cons, map-append, sum-append, sum-reverse w l) (omega arith)
 
-pub find-number : (n : ℕ) (l : List Conn) → find n l .id ≡ n
-find-number n [] = refl
-find-number n (c ∷ l) = if-both (λ (x : Conn). x .id ≡ n) (λ h. eqb-true _ _ h) (λ h. find-number n l)
-
 without-step : (w : ℕ → ℕ) (n : ℕ) (c : Conn) (l : List Conn) (b : Bool) → (c .id =? n) ≡ b → (if b then true else has n l) ≡ true
     → (has n l ≡ true → sumOf w (numbers l) ≡ w n + sumOf w (numbers (without n l)))
     → w (c .id) + sumOf w (numbers l) ≡ w n + sumOf w (numbers (if b then l else c ∷ without n l))

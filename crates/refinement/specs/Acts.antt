@@ -5,6 +5,7 @@ use mathlib.Core.List.{List, [], _∷_}
 use Prim.Native.Nat.{ℕ, _+_, _≤_, _<_}
 use native.Mathlib.Omega.{arith}
 use lib.ListN.{getD, length-append}
+use Rattle.definition.specs.Laws.{find-id}
 use Rattle.definition.specs.Words.{if_then_else_}
 use Rattle.definition.specs.Pool as P
 use Rattle.definition.specs.Pool.{most, Pool, Conn, find, stateNo}
@@ -21,7 +22,7 @@ use Rattle.slots.specs.OrderLaws.{place-found}
 use Rattle.slots.specs.View.{SlotPool, Slot}
 use Rattle.slots.specs.Slots as S
 use Rattle.slots.specs.Slots.{vacant}
-use Rattle.refinement.specs.Table.{Fresh, cell, has-it, find-id, one, one-pos, one-zero, taken-put}
+use Rattle.refinement.specs.Table.{Fresh, cell, has-it, one, one-pos, one-zero, taken-put}
 use Rattle.refinement.specs.Kept.{isLent, isPending, kept-put, unlisted, same, into, inIds}
 use Rattle.refinement.specs.Stands.{Alike, Stands, Same}
 use Rattle.refinement.specs.Order.{place-vacant}

@@ -24,20 +24,20 @@ use Rattle.refinement.specs.Events.{Fit, own-same}
 pub record Few (k : ℕ) (o : Out SlotPool) : Type 0 where
   pub records : length (o .records) ≤ k
 
-few-then : (j k : ℕ) (a b : Act SlotPool) (p : SlotPool) → Few j (a p) → Few k (b (a p .pool)) → Few (j + k) ((a >> b) p)
+pub few-then : (j k : ℕ) (a b : Act SlotPool) (p : SlotPool) → Few j (a p) → Few k (b (a p .pool)) → Few (j + k) ((a >> b) p)
 unfolding _>>_
 few-then j k a b p f g = record { records = rw length-append (omega (arith, f .records, g .records)) }
 
-few-if : {k : ℕ} (b : Bool) (x y : Act SlotPool) (p : SlotPool) → Few k (x p) → Few k (y p) → Few k ((if b then x else y) p)
+pub few-if : {k : ℕ} (b : Bool) (x y : Act SlotPool) (p : SlotPool) → Few k (x p) → Few k (y p) → Few k ((if b then x else y) p)
 unfolding if_then_else_
 few-if true x y p f g = f
 few-if false x y p f g = g
 
-few-more : (j k : ℕ) {o : Out SlotPool} → j ≤ k → Few j o → Few k o
+pub few-more : (j k : ℕ) {o : Out SlotPool} → j ≤ k → Few j o → Few k o
 few-more j k h f = record { records = omega (arith, f .records) }
 
 -- an act that says as many
-few-said : (k : ℕ) (p : SlotPool) {r : List Record} → length r ≤ k → Few k (record { pool = p; records = r })
+pub few-said : (k : ℕ) (p : SlotPool) {r : List Record} → length r ≤ k → Few k (record { pool = p; records = r })
 few-said k p h = record { records = h }
 
 -- ── Parts ──────────────────────────────────────────────────────────────────────────────────────────────────────────────
@@ -46,11 +46,11 @@ closeAt-few : (r : _) (i : ℕ) (p : SlotPool) → Few 1 (S.closeAt r i p)
 unfolding S.closeAt _>>_
 closeAt-few r i p = record { records = omega arith }
 
-shelve-few : (k i t : ℕ) (p : SlotPool) → Few k (S.shelve i t p)
+pub shelve-few : (k i t : ℕ) (p : SlotPool) → Few k (S.shelve i t p)
 unfolding S.shelve
 shelve-few k i t p = record { records = omega arith }
 
-turnAt-few : (k s i : ℕ) (p : SlotPool) → Few k (S.turnAt s i p)
+pub turnAt-few : (k s i : ℕ) (p : SlotPool) → Few k (S.turnAt s i p)
 unfolding S.turnAt
 turnAt-few k s i p = record { records = omega arith }
 
@@ -66,7 +66,7 @@ pub create-few : (k : ℕ) (p : SlotPool) → Few 1 (S.createPendingConnection k
 unfolding S.createPendingConnection _>>_
 create-few k p = record { records = omega arith }
 
-closePerished-few : (i : ℕ) (p : SlotPool) → Few 1 (S.closePerishedAt i p)
+pub closePerished-few : (i : ℕ) (p : SlotPool) → Few 1 (S.closePerishedAt i p)
 unfolding S.closePerishedAt
 closePerished-few i p = closeAt-few _ i p
 

@@ -92,7 +92,7 @@ limits-of o h =
     let a = and-both (1 ≤? o .maximum) (o .maximum ≤? most) (b .0) in
     record { one = leb-true _ _ (a .0); maximum = leb-true _ _ (a .1); minimum = leb-true _ _ (b .1); connecting = (leb-true _ _ (c .1), leb-true _ _ (d .1)) }
 
-zeros : (n j : ℕ) → getD {A = ℕ} (replicate n 0) j 0 ≡ 0
+pub zeros : (n j : ℕ) → getD {A = ℕ} (replicate n 0) j 0 ≡ 0
 zeros zero j = refl
 zeros (suc n) zero = refl
 zeros (suc n) (suc j) = zeros n j

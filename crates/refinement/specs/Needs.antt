@@ -16,7 +16,7 @@ use Rattle.slots.specs.View.{SlotPool, Whole}
 use Rattle.slots.specs.Slots as S
 use Rattle.slots.specs.Call.{target}
 use Rattle.slots.specs.Needs.{CanCreate, CanClose, CanShelve, CanLeave, CanPrune, CanFill, CanQueue, CanTell, CanClear, CanTake, CanWarm, CanServe}
-use Rattle.refinement.specs.Table.{by-lt, by-bool}
+use Rattle.refinement.specs.Table.{by-lt, by-bool, or-right}
 use Rattle.refinement.specs.Kept.{isLent, isPending, Listed, all-at}
 use Rattle.refinement.specs.Stands.{Stands, Formed}
 use Rattle.refinement.specs.Transit.{counted, at-most, one-less}
@@ -156,9 +156,5 @@ ids-for-maintenance p now h = ids-left p Maintenance now h (by-bool (isClosed (p
 
 pub generation-left : (p : SlotPool) (timeout : Bool) (cause now : ℕ) → Passed p (Clear timeout cause) now → p .generation < 4294967296 → p .generation < 4294967295
 generation-left p timeout cause now h g =
-    let d : p .generation ≡ 4294967295 → ⊥ = eqb-false (p .generation) 4294967295 (right (not (isClosed (p .state)) && not (5 =? 15) && lastNextId <? p .nextId) (p .generation =? 4294967295) (h .numbers)) in
+    let d : p .generation ≡ 4294967295 → ⊥ = eqb-false (p .generation) 4294967295 (or-right (not (isClosed (p .state)) && not (5 =? 15) && lastNextId <? p .nextId) (p .generation =? 4294967295) (h .numbers)) in
     omega (arith, d)
-  where
-    right : (a b : Bool) → (a || b) ≡ false → b ≡ false
-    right true b e = absurd (true≢false e)
-    right false b e = e

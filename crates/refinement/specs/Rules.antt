@@ -148,7 +148,7 @@ as-many t xs ss l u us a =
     (λ e. ap (λ (x : ℕ). lookup x l) e ∙ a .named ∙ sym (c .named) ∙ ap (λ (x : ℕ). lookup x (collect t xs ss)) (sym e))
     (λ d. sym (a .finds n (omega (arith, d))) ∙ c .finds n (omega (arith, d))))
 
-abbrev bit : Bool → ℕ
+abbrev pub bit : Bool → ℕ
 bit true = 1
 bit false = 0
 
@@ -163,11 +163,11 @@ tally (suc (suc (suc (suc (suc zero))))) z h = refl
 tally (suc (suc (suc (suc (suc (suc zero)))))) z h = refl
 tally (suc (suc (suc (suc (suc (suc (suc k))))))) z h = absurd (omega arith)
 
-many-none : (t : Class) (x : ℕ) (xs : List ℕ) (s : Slot) (ss : List Slot) → x ≡ 0 → many t (x ∷ xs) (s ∷ ss) ≡ many t xs ss
+pub many-none : (t : Class) (x : ℕ) (xs : List ℕ) (s : Slot) (ss : List Slot) → x ≡ 0 → many t (x ∷ xs) (s ∷ ss) ≡ many t xs ss
 unfolding collect if_then_else_
 many-none t x xs s ss e = rw (eq-eqb x 0 e)
 
-many-bit : (t : Class) (x : ℕ) (xs : List ℕ) (s : Slot) (ss : List Slot) → (x ≡ 0 → ⊥) → many t (x ∷ xs) (s ∷ ss) ≡ bit (t (s .state)) + many t xs ss
+pub many-bit : (t : Class) (x : ℕ) (xs : List ℕ) (s : Slot) (ss : List Slot) → (x ≡ 0 → ⊥) → many t (x ∷ xs) (s ∷ ss) ≡ bit (t (s .state)) + many t xs ss
 unfolding collect if_then_else_
 many-bit t x xs s ss n = by-bool (t (s .state)) (λ b. rw (ne-eqb x 0 n, b) (omega arith)) (λ b. rw (ne-eqb x 0 n, b) (omega arith))
 
@@ -175,7 +175,7 @@ nothing-taken : (ss : List Slot) → taken [] ≡ many isShelved [] ss + many is
 unfolding taken collect
 nothing-taken ss = refl
 
-taken-cons : (x : ℕ) (xs : List ℕ) → taken (x ∷ xs) ≡ one x + taken xs
+pub taken-cons : (x : ℕ) (xs : List ℕ) → taken (x ∷ xs) ≡ one x + taken xs
 unfolding taken
 taken-cons x xs = refl
 

@@ -1,6 +1,6 @@
 -- The table of slots, looked up by number; lists of connections, looked up alike.
 use mathlib.Core.Path.{_≡_, refl, ap, sym, _∙_}
-use mathlib.Core.Bool.{Bool, true, false, false≢true, _&&_}
+use mathlib.Core.Bool.{Bool, true, false, true≢false, false≢true, _&&_, _||_}
 use mathlib.Core.List.{List, [], _∷_}
 use mathlib.Core.Option.{Option, none, some}
 use Prim.Native.Nat.{ℕ, zero, suc, _+_, _≤_, _<_}
@@ -38,6 +38,14 @@ by-bool false f g = g refl
 pub and-both : (a b : Bool) → (a && b) ≡ true → (a ≡ true) × (b ≡ true)
 and-both true b h = (refl, h)
 and-both false b h = absurd (false≢true h)
+
+pub or-left : (a b : Bool) → (a || b) ≡ false → a ≡ false
+or-left true b h = absurd (true≢false h)
+or-left false b h = refl
+
+pub or-right : (a b : Bool) → (a || b) ≡ false → b ≡ false
+or-right true b h = absurd (true≢false h)
+or-right false b h = h
 
 -- ── Slots ──────────────────────────────────────────────────────────────────────────────────────────────────────────────
 
@@ -230,11 +238,6 @@ has-it n (c ∷ l) s h =
     (λ e. let g : some (cell c) ≡ some s = rw (eq-eqb (c .id) n e) at h in let d : cell c ≡ s = cc in
     (rw (eq-eqb (c .id) n e), rw (eq-eqb (c .id) n e) d))
     (λ e. let r = has-it n l s (rw (ne-eqb (c .id) n e) at h) in (rw (ne-eqb (c .id) n e) (r .0), rw (ne-eqb (c .id) n e) (r .1)))
-
-pub find-id : (n : ℕ) (l : List Conn) → find n l .id ≡ n
-unfolding if_then_else_
-find-id n [] = refl
-find-id n (c ∷ l) = by-eq (c .id) n (λ e. rw (eq-eqb (c .id) n e) e) (λ e. rw (ne-eqb (c .id) n e) (find-id n l))
 
 -- ── How many slots are taken ───────────────────────────────────────────────────────────────────────────────────────────
 

@@ -7,6 +7,7 @@ use Prim.Native.Nat.{ℕ, _≤_, _<_, _/_}
 use native.Mathlib.Omega.{arith}
 use lib.ListN.{length, List·getD-eq-default}
 use borrow.Author.Tests.{eqb-true, ne-eqb, leb-false, ltb-true, ltb-false, not-false}
+use Rattle.definition.specs.Laws.{not-first}
 use Rattle.definition.specs.Words.{if_then_else_, _<?_, _≤?_, _=?_}
 use Rattle.definition.specs.Pool as P
 use Rattle.definition.specs.Pool.{queueLength, most, Pool, Conn, isClosed, has, hasIn, find, stateNo}
@@ -43,12 +44,6 @@ first-same r true true ts us e f = refl
 first-same r false false ts us e f = f refl
 first-same r true false ts us e f = absurd (true≢false e)
 first-same r false true ts us e f = absurd (false≢true e)
-
--- none holds
-passed : (r : Refusal) (b : Bool) (ts : List Test) → first ((r if b) ∷ ts) ≡ none → (b ≡ false) × (first ts ≡ none)
-unfolding first if_then_else_
-passed r true ts h = let z : _≡_ {A = ℕ} 0 1 = cc in absurd (omega arith)
-passed r false ts h = (refl, h)
 
 -- ── A connection by its number ─────────────────────────────────────────────────────────────────────────────────────────
 
@@ -186,8 +181,8 @@ pub record Passed (p : SlotPool) (e : Event) (now : ℕ) : Type 0 where
 
 pub new-fit : (p : SlotPool) (n : ℕ) → first (C.requestTests p n) ≡ none → New n p
 new-fit p n h =
-    let a = passed OldRequest (n ≤? p .lastRequest) _ h in
-    let b = passed QueueFull (queueLength ≤? p .waitings) [] (a .1) in
+    let a = not-first OldRequest (n ≤? p .lastRequest) _ h in
+    let b = not-first QueueFull (queueLength ≤? p .waitings) [] (a .1) in
     record { later = leb-false n (p .lastRequest) (a .0); room = leb-false queueLength (p .waitings) (b .0) }
 
 module _ {p : SlotPool} {m : Pool} (st : Stands p m) where
@@ -201,28 +196,28 @@ module _ {p : SlotPool} {m : Pool} (st : Stands p m) where
   kind-fit (CheckOut n) now h = new-fit p n h
   kind-fit (WarmPool n) now h = new-fit p n h
   kind-fit (Abandon n) now h =
-      let b = and-both (waiterOf? p n <? p .waitings) _ (not-false _ (passed NotWaiting _ [] h .0)) in
+      let b = and-both (waiterOf? p n <? p .waitings) _ (not-false _ (not-first NotWaiting _ [] h .0)) in
       let low : waiterOf? p n < p .waitings = ltb-true _ _ (b .0) in
       record { place = low; id = place-found (λ v. v / 4) n (p .waitings) (p .waiters) low; heard = ltb-true _ 2 (b .1) }
-  kind-fit (CheckIn n errored executing letGo) now h = lent-fit n (not-false _ (passed WrongState _ _ h .0))
+  kind-fit (CheckIn n errored executing letGo) now h = lent-fit n (not-false _ (not-first WrongState _ _ h .0))
   kind-fit (Clear timeout cause) now h = tt
   kind-fit MarkAsReady now h = tt
-  kind-fit (Succeeded n) now h = pending-fit n (is-in 5 6 5 (stateOf p n) (omega arith) (omega arith) (not-false _ (passed WrongState _ [] h .0)))
-  kind-fit (SucceededForPool n opened) now h = pending-fit n (is-in 5 6 6 (stateOf p n) (omega arith) (omega arith) (not-false _ (passed WrongState _ _ h .0)))
-  kind-fit (Failed n) now h = pending-fit n (not-false _ (passed WrongState _ [] h .0))
+  kind-fit (Succeeded n) now h = pending-fit n (is-in 5 6 5 (stateOf p n) (omega arith) (omega arith) (not-false _ (not-first WrongState _ [] h .0)))
+  kind-fit (SucceededForPool n opened) now h = pending-fit n (is-in 5 6 6 (stateOf p n) (omega arith) (omega arith) (not-false _ (not-first WrongState _ _ h .0)))
+  kind-fit (Failed n) now h = pending-fit n (not-false _ (not-first WrongState _ [] h .0))
   kind-fit Maintenance now h = tt
   kind-fit FillPool now h = tt
-  kind-fit (Pin n) now h = lent-fit n (is-in 2 4 2 (stateOf p n) (omega arith) (omega arith) (not-false _ (passed WrongState _ [] (passed AlreadyPinned _ _ h .1) .0)))
-  kind-fit (ReturnToPinner n) now h = lent-fit n (is-in 2 4 3 (stateOf p n) (omega arith) (omega arith) (not-false _ (passed WrongState _ [] h .0)))
-  kind-fit (TakeFromPinner n) now h = lent-fit n (pinned-lent (stateOf p n) (not-false _ (passed WrongState _ [] h .0)))
+  kind-fit (Pin n) now h = lent-fit n (is-in 2 4 2 (stateOf p n) (omega arith) (omega arith) (not-false _ (not-first WrongState _ [] (not-first AlreadyPinned _ _ h .1) .0)))
+  kind-fit (ReturnToPinner n) now h = lent-fit n (is-in 2 4 3 (stateOf p n) (omega arith) (omega arith) (not-false _ (not-first WrongState _ [] h .0)))
+  kind-fit (TakeFromPinner n) now h = lent-fit n (pinned-lent (stateOf p n) (not-false _ (not-first WrongState _ [] h .0)))
   kind-fit Close now h = tt
 
   pub tests-passed : (e : Event) (now : ℕ) → first (C.tests p e now) ≡ none → Passed p e now
   unfolding C.tests
   tests-passed e now h =
-      let a = passed ClockBack (now <? p .clock) _ h in
-      let b = passed AfterClose (isClosed (p .state) && not (takenAfterClose e)) _ (a .1) in
-      let c = passed NumbersSpent (C.numbersSpent p e) _ (b .1) in
+      let a = not-first ClockBack (now <? p .clock) _ h in
+      let b = not-first AfterClose (isClosed (p .state) && not (takenAfterClose e)) _ (a .1) in
+      let c = not-first NumbersSpent (C.numbersSpent p e) _ (b .1) in
       record { clock = ltb-false now (p .clock) (a .0); taken = b .0; numbers = c .0; fit = kind-fit e now (c .1) }
 
   -- and so where the verdict names a slot or a waiter: it is the event's

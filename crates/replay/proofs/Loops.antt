@@ -12,7 +12,7 @@ use Rattle.slots.specs.View.{SlotPool}
 use Rattle.text.specs.Printed.{tail-more}
 use Rattle.replay.specs.declared.Pace.{Pace}
 use Rattle.replay.specs.declared.Run.{Run}
-use Rattle.replay.specs.Feed.{Took, View, Fed, most, lineRoom, stop, joined, joined-joined, emptied, goOn}
+use Rattle.replay.specs.Feed.{Took, View, Fed, heldMost, lineRoom, stop, joined, joined-joined, emptied, goOn}
 use Rattle.replay.specs.Chunks.{lineLen, ends, ends-last, clean, clean-more, len-clean, chunkOf, lined, in-chunk, go-room}
 use Rattle.replay.specs.OnSlots.{Play, lineSlots, onSlots, line-cap}
 use Rattle.replay.specs.Code.{playOf, heldOf, viewOf, Able, Holds, Kept, Lined, Pieced, Read}
@@ -31,28 +31,28 @@ drop-replicate (suc k) (suc n) h = let e : suc n - suc k ≡ n - k = omega arith
 
 module _ (b : List ℕ) (n : ℕ) (p : List ℕ) (h : Holds b n) where
   abbrev more : ℕ
-  more = min (length p) (most - n)
+  more = min (length p) (heldMost - n)
 
   pub held-more : (b' : List ℕ) (n' : ℕ) → n' ≡ n + more → b' ≡ paste b n p more → Holds b' n'
   held-more b' n' e q =
       let g : n + more ≤ length b = omega (arith, h .few, h .long) in
-      let sub : most - n - more ≡ most - (n + more) = omega arith in
-      let d : drop (n + more) (paste b n p more) ≡ replicate (most - (n + more)) 0 =
-      drop-paste b n p more (omega (arith, h .few, h .long)) (omega arith) ∙ sym (drop-drop more n b) ∙ ap (drop more) (h .blank) ∙ drop-replicate more (most - n) (omega arith)
+      let sub : heldMost - n - more ≡ heldMost - (n + more) = omega arith in
+      let d : drop (n + more) (paste b n p more) ≡ replicate (heldMost - (n + more)) 0 =
+      drop-paste b n p more (omega (arith, h .few, h .long)) (omega arith) ∙ sym (drop-drop more n b) ∙ ap (drop more) (h .blank) ∙ drop-replicate more (heldMost - n) (omega arith)
       ∙ ap (λ (k : ℕ). replicate k 0) sub in
       record {
         few = omega (arith, h .few);
         long = ap length q ∙ length-paste b n p more g (omega arith) ∙ h .long;
-        blank = ap (λ (k : ℕ). drop k b') e ∙ ap (drop (n + more)) q ∙ d ∙ ap (λ (k : ℕ). replicate (most - k) 0) (sym e);
+        blank = ap (λ (k : ℕ). drop k b') e ∙ ap (drop (n + more)) q ∙ d ∙ ap (λ (k : ℕ). replicate (heldMost - k) 0) (sym e);
       }
 
-  pub held-take : (b' : List ℕ) (n' : ℕ) → n' ≡ n + more → b' ≡ paste b n p more → take n' b' ≡ take most (take n b ++ p)
+  pub held-take : (b' : List ℕ) (n' : ℕ) → n' ≡ n + more → b' ≡ paste b n p more → take n' b' ≡ take heldMost (take n b ++ p)
   held-take b' n' e q =
       let l : length (take n b) ≡ n = length-take-le n b (omega (arith, h .few, h .long)) in
-      let z : most ≡ length (take n b) + (most - n) = omega (arith, h .few) in
+      let z : heldMost ≡ length (take n b) + (heldMost - n) = omega (arith, h .few) in
       ap (λ (k : ℕ). take k b') e ∙ ap (take (n + more)) q ∙ take-paste b n p more (omega (arith, h .few, h .long)) (omega arith)
-      ∙ ap (λ (x : List ℕ). take n b ++ x) (take-min p (most - n))
-      ∙ sym (ap (λ (k : ℕ). take k (take n b ++ p)) z ∙ take-append-add (take n b) p (most - n))
+      ∙ ap (λ (x : List ℕ). take n b ++ x) (take-min p (heldMost - n))
+      ∙ sym (ap (λ (k : ℕ). take k (take n b ++ p)) z ∙ take-append-add (take n b) p (heldMost - n))
 
 pub holds-none : Holds (replicate 50 0) 0
 holds-none = record { few = omega arith; long = refl; blank = refl }
@@ -60,11 +60,11 @@ holds-none = record { few = omega arith; long = refl; blank = refl }
 -- ── A piece ────────────────────────────────────────────────────────────────────────────────────────────────────────────────
 
 module _ (s : Play) (b : List ℕ) (n : ℕ) (p before after : List ℕ) where
-  ended-piece : ends p ≡ true → chunkOf onSlots (heldOf s b n) p ≡ lined onSlots (lineSlots s (take most (take n b ++ p)))
+  ended-piece : ends p ≡ true → chunkOf onSlots (heldOf s b n) p ≡ lined onSlots (lineSlots s (take heldMost (take n b ++ p)))
   unfolding chunkOf if_then_else_
   ended-piece e = rw e
 
-  open-piece : ends p ≡ false → chunkOf onSlots (heldOf s b n) p ≡ stop (record { state = s; held = take most (take n b ++ p) }) []
+  open-piece : ends p ≡ false → chunkOf onSlots (heldOf s b n) p ≡ stop (record { state = s; held = take heldMost (take n b ++ p) }) []
   unfolding chunkOf if_then_else_
   open-piece e = rw e
 
@@ -73,7 +73,7 @@ module _ (s : Play) (b : List ℕ) (n : ℕ) (p before after : List ℕ) where
       record { view = ap (λ (x : List ℕ). record { state = s'; held = x }) z ∙ ap emptied (q .state); holds = g; written = q .written; few = q .few; laid = q .laid; able = q .able }
 
   -- the line's end, behind what is held
-  pub piece-line : (l : List ℕ) (s' : Play) (w : ℕ) → ends p ≡ true → l ≡ take most (take n b ++ p) → Lined (lineSlots s l) before after s' w
+  pub piece-line : (l : List ℕ) (s' : Play) (w : ℕ) → ends p ≡ true → l ≡ take heldMost (take n b ++ p) → Lined (lineSlots s l) before after s' w
       → Pieced (chunkOf onSlots (heldOf s b n) p) before after s' (replicate 50 0) 0 w
   piece-line l s' w e z q =
       subst (λ (k : Fed Play ℕ). Pieced k before after s' (replicate 50 0) 0 w) (sym (ended-piece e))
@@ -83,12 +83,12 @@ module _ (s : Play) (b : List ℕ) (n : ℕ) (p before after : List ℕ) where
   pub piece-quick : (s' : Play) (w : ℕ) → Holds b n → n ≡ 0 → ends p ≡ true → Lined (lineSlots s p) before after s' w → Pieced (chunkOf onSlots (heldOf s b n) p) before after s' b n w
   piece-quick s' w g z e q =
       let y : take n b ≡ [] = ap (λ (k : ℕ). take k b) z in
-      let x : lineSlots s (take most (take n b ++ p)) ≡ lineSlots s p = ap (λ (t : List ℕ). lineSlots s (take most (t ++ p))) y ∙ line-cap s p in
+      let x : lineSlots s (take heldMost (take n b ++ p)) ≡ lineSlots s p = ap (λ (t : List ℕ). lineSlots s (take heldMost (t ++ p))) y ∙ line-cap s p in
       subst (λ (k : Fed Play ℕ). Pieced k before after s' b n w) (sym (ended-piece e))
       (pieced-line s' b n w _ y g (subst (λ (k : Took Play ℕ). Lined k before after s' w) (sym x) q))
 
 -- more to hold
-pub piece-held : (s : Play) (b : List ℕ) (n : ℕ) (p before b' : List ℕ) (n' : ℕ) → ends p ≡ false → take n' b' ≡ take most (take n b ++ p) → Holds b' n' → Able (s .phase) (s .pool)
+pub piece-held : (s : Play) (b : List ℕ) (n : ℕ) (p before b' : List ℕ) (n' : ℕ) → ends p ≡ false → take n' b' ≡ take heldMost (take n b ++ p) → Holds b' n' → Able (s .phase) (s .pool)
     → Pieced (chunkOf onSlots (heldOf s b n) p) before before s b' n' 0
 piece-held s b n p before b' n' e z g a =
     subst (λ (k : Fed Play ℕ). Pieced k before before s b' n' 0) (sym (open-piece s b n p before before e))

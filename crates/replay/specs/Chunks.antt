@@ -10,7 +10,7 @@ use lib.ListN.{length, take, drop, getD, length-take, length-append, drop-of-len
 use lib.Seq.{drop-cons}
 use Rattle.definition.specs.Words.{if_then_else_, _<?_, _=?_}
 use Rattle.definition.specs.Bytes.{newline}
-use Rattle.replay.specs.Feed.{Took, Machine, View, Fed, most, lineRoom, stop, joined, emptied, push, lineAt, feedIn, goOn}
+use Rattle.replay.specs.Feed.{Took, Machine, View, Fed, heldMost, lineRoom, stop, joined, emptied, push, lineAt, feedIn, goOn}
 use Rattle.replay.specs.Whole.{cap-append}
 
 -- how long the first line is, with its newline
@@ -80,7 +80,7 @@ module _ {S O : Type 0} (m : Machine S O) where
 
   -- a piece without a newline but at its end
   unfoldable pub chunkOf : View S → List ℕ → Fed S O
-  chunkOf v p = if ends p then lined (m .line (v .state) (take most (v .held ++ p))) else stop (record { state = v .state; held = take most (v .held ++ p) }) []
+  chunkOf v p = if ends p then lined (m .line (v .state) (take heldMost (v .held ++ p))) else stop (record { state = v .state; held = take heldMost (v .held ++ p) }) []
 
   -- a piece, and then on
   abbrev pub afterChunk : ℕ → Fed S O → List ℕ → Fed S O
@@ -90,7 +90,7 @@ module _ {S O : Type 0} (m : Machine S O) where
   unfolding chunkOf ends
   chunk-push v c [] h = absurd (omega arith)
   chunk-push v c (d ∷ q) h =
-      let e : take most (take most (v .held ++ c ∷ []) ++ d ∷ q) ≡ take most (v .held ++ c ∷ d ∷ q) = cap-append most (v .held ++ c ∷ []) (d ∷ q) ∙ ap (take most) (append-assoc (v .held) (c ∷ []) (d ∷ q)) in
+      let e : take heldMost (take heldMost (v .held ++ c ∷ []) ++ d ∷ q) ≡ take heldMost (v .held ++ c ∷ d ∷ q) = cap-append heldMost (v .held ++ c ∷ []) (d ∷ q) ∙ ap (take heldMost) (append-assoc (v .held) (c ∷ []) (d ∷ q)) in
       rw e
 
   pub go-nil : (room : ℕ) (v : View S) → goOn m room v [] ≡ stop v []
@@ -101,7 +101,7 @@ module _ {S O : Type 0} (m : Machine S O) where
       same true = refl
       same false = refl
 
-  chunk-true : (v : View S) (c : ℕ) → c =? newline ≡ true → chunkOf v (c ∷ []) ≡ lined (m .line (v .state) (take most (v .held ++ c ∷ [])))
+  chunk-true : (v : View S) (c : ℕ) → c =? newline ≡ true → chunkOf v (c ∷ []) ≡ lined (m .line (v .state) (take heldMost (v .held ++ c ∷ [])))
   unfolding chunkOf ends if_then_else_
   chunk-true v c e = rw e
 
@@ -109,7 +109,7 @@ module _ {S O : Type 0} (m : Machine S O) where
   unfolding chunkOf ends if_then_else_
   chunk-false v c e = rw e
 
-  in-true : (room : ℕ) (v : View S) (c : ℕ) (t : List ℕ) → c =? newline ≡ true → feedIn m room v (c ∷ t) ≡ afterChunk room (lined (m .line (v .state) (take most (v .held ++ c ∷ [])))) t
+  in-true : (room : ℕ) (v : View S) (c : ℕ) (t : List ℕ) → c =? newline ≡ true → feedIn m room v (c ∷ t) ≡ afterChunk room (lined (m .line (v .state) (take heldMost (v .held ++ c ∷ [])))) t
   unfolding feedIn goOn if_then_else_
   in-true room v c t e = rw e
 

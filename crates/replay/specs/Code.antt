@@ -11,7 +11,7 @@ use Rattle.replay.specs.declared.Phase.{Phase}
 use Rattle.replay.specs.declared.Phase.the-variants.{First, Going, Ended}
 use Rattle.replay.specs.declared.Pace.{Pace}
 use Rattle.replay.specs.declared.Run.{Run}
-use Rattle.replay.specs.Feed.{Took, View, Fed, most, lineRoom}
+use Rattle.replay.specs.Feed.{Took, View, Fed, heldMost, lineRoom}
 use Rattle.replay.specs.OnSlots.{Play, options}
 
 -- the machine's state that the lent parts make
@@ -32,9 +32,9 @@ Able Ended p = Unit {0}
 
 -- n bytes are held, and what stands behind them is 0: so that what is held says all of the 50
 pub record Holds (b : List ℕ) (n : ℕ) : Type 0 where
-  pub few : n ≤ most
-  pub long : length b ≡ most
-  pub blank : drop n b ≡ replicate (most - n) 0
+  pub few : n ≤ heldMost
+  pub long : length b ≡ heldMost
+  pub blank : drop n b ≡ replicate (heldMost - n) 0
 
 -- what is asked of a run, and kept
 pub record Kept (r : Run) (p : SlotPool) : Type 0 where

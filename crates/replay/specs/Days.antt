@@ -6,6 +6,7 @@ use Prim.Native.Nat.{ℕ, _+_, _-_, _≤_, _<_}
 use native.Mathlib.Omega.{arith}
 use borrow.Author.Tests.{eq-eqb, eqb-true, le-leb, leb-true}
 use lib.ListN.{length, drop, replicate, length-append, length-replicate}
+use Rattle.refinement.specs.Table.{and-both}
 use Rattle.definition.specs.Words.{if_then_else_, _=?_, _≤?_, _<?_}
 use Rattle.definition.specs.Day.{logOf, framesUsed}
 use Rattle.definition.specs.declared.Options.{Options}
@@ -59,11 +60,6 @@ no-length : (l : List ℕ) → length l ≡ 0 → l ≡ []
 no-length [] e = refl
 no-length (x ∷ l) e = absurd (omega arith)
 
-both : (a b : Bool) → (a && b) ≡ true → (a ≡ true) × (b ≡ true)
-both true true h = (refl, refl)
-both true false h = absurd (false≢true h)
-both false b h = absurd (false≢true h)
-
 module _ (room budget : ℕ) (text : List ℕ) where
   abbrev got : Fed Play ℕ
   got = goOn onSlots room (opening budget) text
@@ -71,7 +67,7 @@ module _ (room budget : ℕ) (text : List ℕ) where
   told-whole : (b : Bool) → all? room got ≡ b → toldOf b got .whole ≡ true → Writes (toldOf b got .took) budget text
   unfolding if_then_else_
   told-whole true e h =
-      let z : got .rest ≡ [] = no-length (got .rest) (eqb-true (length (got .rest)) 0 (both _ _ e .0)) in
+      let z : got .rest ≡ [] = no-length (got .rest) (eqb-true (length (got .rest)) 0 (and-both _ _ e .0)) in
       subst (λ (t : Took Play ℕ). Writes t budget text) (ap (ended onSlots) (some-reads onSlots room (opening budget) text) ∙ all-read got z) (opening-writes budget text)
   told-whole false e h = absurd (false≢true h)
 

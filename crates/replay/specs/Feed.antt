@@ -29,8 +29,8 @@ pub record Fed (S O : Type 0) : Type 0 where
   pub rest : List ℕ
 
 -- the most that is held of a line; the room that the records of any event fit in, as lines: 512 of 33 bytes
-abbrev pub most : ℕ
-most = 50
+abbrev pub heldMost : ℕ
+heldMost = 50
 
 abbrev pub lineRoom : ℕ
 lineRoom = 16896
@@ -56,12 +56,12 @@ module _ {S : Type 0} where
   emptied s = record { state = s; held = [] }
 
   abbrev pub push : View S → ℕ → View S
-  push v c = record { state = v .state; held = take most (v .held ++ c ∷ []) }
+  push v c = record { state = v .state; held = take heldMost (v .held ++ c ∷ []) }
 
 module _ {S O : Type 0} (m : Machine S O) where
   -- the line that a newline ends
   abbrev pub lineAt : View S → ℕ → Took S O
-  lineAt v c = m .line (v .state) (take most (v .held ++ c ∷ []))
+  lineAt v c = m .line (v .state) (take heldMost (v .held ++ c ∷ []))
 
   -- ── The whole text, with no bound on the output ────────────────────────────────────────────────────────────────────────
 

@@ -27,37 +27,7 @@ use Rattle.refinement.specs.Stands.{Stands}
 use Rattle.refinement.specs.Events.{Fit, fit-clock, own-same}
 use Rattle.refinement.specs.Tests.{tests-passed}
 use Rattle.refinement.specs.Call.{clock-stands}
-use Rattle.refinement.specs.Few.{own-few}
-
-record Few (k : ℕ) (o : Out SlotPool) : Type 0 where
-  pub records : length (o .records) ≤ k
-
-few-then : (j k : ℕ) (a b : Act SlotPool) (p : SlotPool) → Few j (a p) → Few k (b (a p .pool)) → Few (j + k) ((a >> b) p)
-unfolding _>>_
-few-then j k a b p f g = record { records = rw length-append (omega (arith, f .records, g .records)) }
-
-few-more : (j k : ℕ) {o : Out SlotPool} → j ≤ k → Few j o → Few k o
-few-more j k h f = record { records = omega (arith, f .records) }
-
-few-if : (k : ℕ) (b : Bool) (x y : Act SlotPool) (p : SlotPool) → Few k (x p) → Few k (y p) → Few k ((if b then x else y) p)
-unfolding if_then_else_
-few-if k true x y p f g = f
-few-if k false x y p f g = g
-
-few-said : (k : ℕ) (p : SlotPool) {r : List Record} → length r ≤ k → Few k (record { pool = p; records = r })
-few-said k p h = record { records = h }
-
-shelve-few : (i t : ℕ) (p : SlotPool) → Few 0 (S.shelve i t p)
-unfolding S.shelve
-shelve-few i t p = record { records = omega arith }
-
-turnAt-few : (s i : ℕ) (p : SlotPool) → Few 0 (S.turnAt s i p)
-unfolding S.turnAt
-turnAt-few s i p = record { records = omega arith }
-
-close-few : (i : ℕ) (p : SlotPool) → Few 1 (S.closePerishedAt i p)
-unfolding S.closePerishedAt S.closeAt _>>_
-close-few i p = record { records = omega arith }
+use Rattle.refinement.specs.Few.{Few, few-then, few-if, few-more, few-said, shelve-few, turnAt-few, closePerished-few, own-few}
 
 back-few : (p : SlotPool) → Few 0 (S.popBack p)
 unfolding S.popBack
@@ -69,7 +39,7 @@ establish-few w p = record { records = omega arith }
 
 lend-few : (w : Waiter) (i : ℕ) (p : SlotPool) → Few 1 (S.lend w i p)
 unfolding S.lend
-lend-few w i p = few-then 1 0 (emit _) _ p (few-said 1 p (omega arith)) (few-if 0 (w .abandoned) _ _ p (shelve-few i _ p) (turnAt-few _ i p))
+lend-few w i p = few-then 1 0 (emit _) _ p (few-said 1 p (omega arith)) (few-if (w .abandoned) _ _ p (shelve-few 0 i _ p) (turnAt-few 0 _ i p))
 
 takeFrom-few : (k : ℕ) (w : Waiter) (p : SlotPool) → Few (k + 2) (S.takeFrom k w p)
 unfolding S.takeFrom
@@ -77,12 +47,12 @@ takeFrom-few zero w p = establish-few w p
 takeFrom-few (suc k) w p =
     few-more (0 + (1 + (k + 2))) (suc k + 2) (omega arith)
     (few-then 0 (1 + (k + 2)) S.popBack _ p (back-few p)
-    (few-if (1 + (k + 2)) _ _ _ _ (few-then 1 (k + 2) (S.closePerishedAt _) (S.takeFrom k w) _ (close-few _ _) (takeFrom-few k w _)) (few-more 1 (1 + (k + 2)) (omega arith) (lend-few w _ _))))
+    (few-if _ _ _ _ (few-then 1 (k + 2) (S.closePerishedAt _) (S.takeFrom k w) _ (closePerished-few _ _) (takeFrom-few k w _)) (few-more 1 (1 + (k + 2)) (omega arith) (lend-few w _ _))))
 
 checkOut-few : (w : Waiter) (p : SlotPool) → Few (p .availables + 2) (S.checkOut w p)
 unfolding S.checkOut
 checkOut-few w p =
-    few-if _ (w .warm) _ _ p (few-if _ _ _ _ p (few-said _ p (omega arith)) (few-more 2 _ (omega arith) (establish-few w p))) (takeFrom-few (p .availables) w p)
+    few-if (w .warm) _ _ p (few-if _ _ _ p (few-said _ p (omega arith)) (few-more 2 _ (omega arith) (establish-few w p))) (takeFrom-few (p .availables) w p)
 
 serveFront-few : (p : SlotPool) → Few (p .availables + 2) (S.serveFront p)
 unfolding S.serveFront S.dequeue
@@ -90,14 +60,14 @@ serveFront-few p = few-more (0 + (p .availables + 2)) _ (omega arith) (few-then 
 
 service-few : (p : SlotPool) → Few (p .availables + 2) (S.service p)
 unfolding S.service
-service-few p = few-if _ _ _ _ p (few-if _ _ _ _ p (few-said _ p (omega arith)) (serveFront-few p)) (few-said _ p (omega arith))
+service-few p = few-if _ _ _ p (few-if _ _ _ p (few-said _ p (omega arith)) (serveFront-few p)) (few-said _ p (omega arith))
 
 event-few : (e : Event) (i : ℕ) (p : SlotPool) (m : Pool) → Stands p m → Fit e p i → Few 512 (S.event e i p)
 unfolding S.event
 event-few e i p m st f =
     let q = S.own e i p .pool in
     few-more (321 + (q .availables + 2)) 512 (omega (arith, own-same e i p m st f .stands .table .fits))
-    (few-then 321 (q .availables + 2) (S.own e i) _ p (record { records = own-few st e i .records }) (few-if _ (serviced e) S.service nothing q (service-few q) (few-said _ q (omega arith))))
+    (few-then 321 (q .availables + 2) (S.own e i) _ p (own-few st e i) (few-if (serviced e) S.service nothing q (service-few q) (few-said _ q (omega arith))))
 
 -- a refused call writes none
 abbrev pub FewIn : Outcome → Type 0

@@ -6,6 +6,7 @@ use native.Mathlib.Nat.{mod-add-mod}
 use native.Mathlib.Omega.{arith}
 use lib.ListN.{length, take, drop, take-append-drop, length-append, length-take, length-drop}
 use lib.Seq.{take-at, drop-at, drop-drop, take-append-le, length-take-le, take-append-add, drop-append-add}
+use Rattle.slots.specs.OrderLaws.{length-record, length-laid}
 use Rattle.definition.specs.Records.{Record, fieldsOf}
 use Rattle.definition.specs.Bytes.{serialOf, recordBytes}
 use Rattle.definition.specs.Day.{Entry, Said, entryBytes, numbered, textOf}
@@ -17,10 +18,6 @@ pub length-numbered : (w : ℕ) (rs : List Record) → length (numbered w rs) �
 unfolding numbered
 length-numbered w [] = refl
 length-numbered w (r ∷ rs) = ap suc (length-numbered (w + 1) rs)
-
-length-record : (s : ℕ) (r : Record) → length (recordBytes s (fieldsOf r)) ≡ 16
-unfolding recordBytes
-length-record s r = refl
 
 -- one more behind what is laid
 laid-front : (l : List ℕ) (off : ℕ) (bs : List ℕ) → off ≤ length l → take (off + length bs) (laid l off bs) ≡ take off l ++ bs
@@ -39,10 +36,6 @@ laid-back l off bs k h =
     ∙ ap (λ (x : List ℕ). drop k (drop (off + length bs) x)) (sym e) ∙ ap (drop k) (drop-at (take off l ++ bs) _ (off + length bs) n)
     ∙ drop-drop k (off + length bs) l
 
-length-laid : (l : List ℕ) (off : ℕ) (bs : List ℕ) → off + length bs ≤ length l → length (laid l off bs) ≡ length l
-unfolding laid
-length-laid l off bs h = simp (length-append, length-take, length-drop) (omega arith)
-
 same-serial : (s w n : ℕ) → s ≡ serialOf w → serialOf (s + n) ≡ serialOf (w + n)
 same-serial s w n e = ap (λ (x : ℕ). serialOf (x + n)) e ∙ mod-add-mod w 4294967296 n
 
@@ -53,7 +46,7 @@ lay-from s w n [] l e h = let z : n + 0 ≡ n = omega arith in rw z (sym (take-a
 lay-from s w n (r ∷ rs) l e h =
     let bs = recordBytes (serialOf (s + n)) (fieldsOf r) in
     let k = laid l (16 * n) bs in
-    let b : length bs ≡ 16 = length-record (serialOf (s + n)) r in
+    let b : length bs ≡ 16 = length-record (serialOf (s + n)) (fieldsOf r) in
     let nk : length k ≡ length l = length-laid l (16 * n) bs (omega arith) in
     let ih = lay-from s w (n + 1) rs k e (omega arith) in
     let t : take (16 * (n + 1)) k ≡ take (16 * n) l ++ bs = (let z : 16 * (n + 1) ≡ 16 * n + length bs = omega arith in ap (λ (x : ℕ). take x k) z ∙ laid-front l (16 * n) bs (omega arith)) in
@@ -79,7 +72,7 @@ unfolding lay
 length-lay s n [] l h = refl
 length-lay s n (r ∷ rs) l h =
     let bs = recordBytes (serialOf (s + n)) (fieldsOf r) in
-    let b : length bs ≡ 16 = length-record (serialOf (s + n)) r in
+    let b : length bs ≡ 16 = length-record (serialOf (s + n)) (fieldsOf r) in
     let nk : length (laid l (16 * n) bs) ≡ length l = length-laid l (16 * n) bs (omega arith) in
     length-lay s (n + 1) rs (laid l (16 * n) bs) (omega arith) ∙ nk
 

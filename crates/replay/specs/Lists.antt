@@ -17,7 +17,7 @@ use Rattle.definition.specs.Day.{Entry, RefusedLine, entriesOf, frames, Day, da
 use Rattle.definition.specs.declared.Options.{Options}
 use Rattle.definition.specs.declared.Refusal.{Refusal}
 use Rattle.definition.specs.declared.Refusal.the-variants.{Malformed}
-use Rattle.replay.specs.Feed.{Took, Machine, View, Fed, Lend, most, quiet, thereafter, emptied, feed, ended, calls, calls-whole}
+use Rattle.replay.specs.Feed.{Took, Machine, View, Fed, Lend, heldMost, quiet, thereafter, emptied, feed, ended, calls, calls-whole}
 use Rattle.replay.specs.Whole.{Tame, lines, frame-cap, options-cap, text-lines}
 
 -- before the options line; with a pool; after bad options
@@ -66,7 +66,7 @@ onLists = record { line = λ s l. lineIn s (s .stage) l; last = λ s. lastIn s (
 
 -- ── It is tame ─────────────────────────────────────────────────────────────────────────────────────────────────────────────
 
-stage-cap : (s : Lists) (g : Stage) (l : List ℕ) → lineIn s g (take most l) ≡ lineIn s g l
+stage-cap : (s : Lists) (g : Stage) (l : List ℕ) → lineIn s g (take heldMost l) ≡ lineIn s g l
 stage-cap s First l = ap (options s) (options-cap l)
 stage-cap s (Going p) l = ap (λ f. if s .used <? s .budget then answered s p (step p f enoughRoom) else quiet s) (frame-cap l)
 stage-cap s Ended l = refl

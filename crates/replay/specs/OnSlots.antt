@@ -20,7 +20,7 @@ use Rattle.refinement.specs.Formed.{freshSlots}
 use Rattle.text.specs.Printed.{printed}
 use Rattle.replay.specs.declared.Phase.{Phase}
 use Rattle.replay.specs.declared.Phase.the-variants.{First, Going, Ended}
-use Rattle.replay.specs.Feed.{Took, Machine, most, quiet}
+use Rattle.replay.specs.Feed.{Took, Machine, heldMost, quiet}
 use Rattle.replay.specs.Whole.{Tame, frame-cap, options-cap}
 
 -- the pool counts only while the run is going; the scratch is the buffer that events lay their records in
@@ -78,12 +78,12 @@ onSlots = record { line = lineSlots; last = lastSlots }
 
 -- ── It is tame ─────────────────────────────────────────────────────────────────────────────────────────────────────────────
 
-phase-cap : (s : Play) (g : Phase) (l : List ℕ) → lineIn s g (take most l) ≡ lineIn s g l
+phase-cap : (s : Play) (g : Phase) (l : List ℕ) → lineIn s g (take heldMost l) ≡ lineIn s g l
 phase-cap s First l = ap (options s) (options-cap l)
 phase-cap s Going l = ap (λ f. if s .used <? s .budget then answered s (call (s .pool) (s .scratch) f) else quiet s) (frame-cap l)
 phase-cap s Ended l = refl
 
-pub line-cap : (s : Play) (l : List ℕ) → lineSlots s (take most l) ≡ lineSlots s l
+pub line-cap : (s : Play) (l : List ℕ) → lineSlots s (take heldMost l) ≡ lineSlots s l
 unfolding lineSlots
 line-cap s l = phase-cap s (s .phase) l
 

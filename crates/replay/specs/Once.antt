@@ -11,7 +11,7 @@ use Rattle.replay.specs.declared.Phase.{Phase}
 use Rattle.replay.specs.declared.Pace.{Pace}
 use Rattle.replay.specs.declared.Run.{Run}
 use Rattle.replay.specs.declared.Day.{Day}
-use Rattle.replay.specs.Feed.{Took, View, Fed, most}
+use Rattle.replay.specs.Feed.{Took, View, Fed, heldMost}
 use Rattle.replay.specs.OnSlots.{Play}
 use Rattle.replay.specs.Code.{viewOf, Holds, Lined, Read}
 use Rattle.replay.specs.Days.{Told, Logged}
@@ -47,7 +47,7 @@ same-count b b' n n' h h' e =
 same-held : (b b' : List ℕ) (n n' : ℕ) → Holds b n → Holds b' n' → take n b ≡ take n' b' → b ≡ b'
 same-held b b' n n' h h' e =
     sym (take-append-drop n b) ∙ ap (λ (x : List ℕ). x ++ drop n b) e
-    ∙ ap (λ (x : List ℕ). take n' b' ++ x) (h .blank ∙ ap (λ (i : ℕ). replicate (most - i) 0) (same-count b b' n n' h h' e) ∙ sym (h' .blank)) ∙ take-append-drop n' b'
+    ∙ ap (λ (x : List ℕ). take n' b' ++ x) (h .blank ∙ ap (λ (i : ℕ). replicate (heldMost - i) 0) (same-count b b' n n' h h' e) ∙ sym (h' .blank)) ∙ take-append-drop n' b'
 
 same-pace : (r r' : Pace) → r .phase ≡ r' .phase → r .used ≡ r' .used → r .budget ≡ r' .budget → r ≡ r'
 same-pace r r' e f g =

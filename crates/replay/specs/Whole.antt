@@ -12,7 +12,7 @@ use Rattle.definition.specs.Words.{if_then_else_, _=?_}
 use Rattle.definition.specs.Bytes.{newline, bytesOf, frameOfLine, optionsOfLine, orBad, orNone}
 use Rattle.definition.specs.Day.{before, linesOf}
 use mathlib.Core.Option.{none}
-use Rattle.replay.specs.Feed.{Took, Machine, View, Fed, most, quiet, thereafter, stop, joined, emptied, push, lineAt, feed, feed-true, feed-false, feed-nil, finish, ended}
+use Rattle.replay.specs.Feed.{Took, Machine, View, Fed, heldMost, quiet, thereafter, stop, joined, emptied, push, lineAt, feed, feed-true, feed-false, feed-nil, finish, ended}
 
 -- ── A long line: its first 50 bytes tell that it is malformed ──────────────────────────────────────────────────────────────
 
@@ -20,21 +20,21 @@ no-bytes : (l : List ℕ) → (length l ≡ 49 → ⊥) → bytesOf l ≡ none
 unfolding bytesOf if_then_else_
 no-bytes l h = rw (ne-eqb (length l) 49 h)
 
-pub bytes-cap : (l : List ℕ) → bytesOf (take most l) ≡ bytesOf l
-bytes-cap l = go (leb (length l) most) refl
+pub bytes-cap : (l : List ℕ) → bytesOf (take heldMost l) ≡ bytesOf l
+bytes-cap l = go (leb (length l) heldMost) refl
   where
-    go : (b : Bool) → leb (length l) most ≡ b → bytesOf (take most l) ≡ bytesOf l
-    go true e = ap bytesOf (take-all most l (leb-true (length l) most e))
+    go : (b : Bool) → leb (length l) heldMost ≡ b → bytesOf (take heldMost l) ≡ bytesOf l
+    go true e = ap bytesOf (take-all heldMost l (leb-true (length l) heldMost e))
     go false e =
-        let h : most < length l = leb-false (length l) most e in
-        let n : length (take most l) ≡ most = simp length-take (omega arith) in
-        no-bytes (take most l) (λ z. omega arith) ∙ sym (no-bytes l (λ z. omega arith))
+        let h : heldMost < length l = leb-false (length l) heldMost e in
+        let n : length (take heldMost l) ≡ heldMost = simp length-take (omega arith) in
+        no-bytes (take heldMost l) (λ z. omega arith) ∙ sym (no-bytes l (λ z. omega arith))
 
-pub frame-cap : (l : List ℕ) → frameOfLine (take most l) ≡ frameOfLine l
+pub frame-cap : (l : List ℕ) → frameOfLine (take heldMost l) ≡ frameOfLine l
 unfolding frameOfLine
 frame-cap l = ap orBad (bytes-cap l)
 
-pub options-cap : (l : List ℕ) → optionsOfLine (take most l) ≡ optionsOfLine l
+pub options-cap : (l : List ℕ) → optionsOfLine (take heldMost l) ≡ optionsOfLine l
 unfolding optionsOfLine
 options-cap l = ap orNone (bytes-cap l)
 
@@ -63,7 +63,7 @@ onto-before (a ∷ h) c (l ∷ ls) = ap (λ (x : List ℕ). (a ∷ x) ∷ ls) (s
 
 -- a machine whose lines may be capped, and to which the end says nothing after a line
 pub record Tame {S O : Type 0} (m : Machine S O) : Type 0 where
-  pub cap : (s : S) (l : List ℕ) → m .line s (take most l) ≡ m .line s l
+  pub cap : (s : S) (l : List ℕ) → m .line s (take heldMost l) ≡ m .line s l
   pub over : (s : S) (l : List ℕ) → m .last (m .line s l .state) ≡ quiet (m .line s l .state)
 
 module _ {S O : Type 0} (m : Machine S O) where
@@ -73,7 +73,7 @@ module _ {S O : Type 0} (m : Machine S O) where
 
 module _ {S O : Type 0} (m : Machine S O) (tame : Tame m) where
   abbrev capped : S → List ℕ → View S
-  capped s h = record { state = s; held = take most h }
+  capped s h = record { state = s; held = take heldMost h }
 
   one-line : (s : S) (h : List ℕ) → lines m s (h ∷ []) ≡ m .line s h
   unfolding lines
@@ -86,7 +86,7 @@ module _ {S O : Type 0} (m : Machine S O) (tame : Tame m) where
   unfolding lines
   no-line s = refl
 
-  at-end : (s : S) (h : List ℕ) → finish m s (take most h) ≡ lines m s (onto h [])
+  at-end : (s : S) (h : List ℕ) → finish m s (take heldMost h) ≡ lines m s (onto h [])
   unfolding finish
   at-end s [] = no-line s
   at-end s (c ∷ h) = tame .cap s (c ∷ h) ∙ sym (one-line s (c ∷ h))
@@ -116,13 +116,13 @@ module _ {S O : Type 0} (m : Machine S O) (tame : Tame m) where
       let l = h ++ c ∷ [] in
       let k = m .line s l in
       ap (ended m) (feed-true m (capped s h) c t e)
-      ∙ ap (λ (x : Took S O). ended m (joined (x .out) (feed m (emptied (x .state)) t))) (ap (m .line s) (cap-append most h (c ∷ [])) ∙ tame .cap s l)
+      ∙ ap (λ (x : Took S O). ended m (joined (x .out) (feed m (emptied (x .state)) t))) (ap (m .line s) (cap-append heldMost h (c ∷ [])) ∙ tame .cap s l)
       ∙ joined-ended k (feed m (emptied (k .state)) t)
       ∙ ap (thereafter k) (ih (k .state) [])
       ∙ sym (ap (λ (x : List (List ℕ)). lines m s (onto h x)) (lines-true c t e) ∙ ap (lines m s) (onto-line h (c ∷ []) (linesOf t)) ∙ lines-more s l (linesOf t))
   whole-case s h c t false e ih =
       ap (ended m) (feed-false m (capped s h) c t e)
-      ∙ ap (λ (x : List ℕ). ended m (feed m (record { state = s; held = x }) t)) (cap-append most h (c ∷ []))
+      ∙ ap (λ (x : List ℕ). ended m (feed m (record { state = s; held = x }) t)) (cap-append heldMost h (c ∷ []))
       ∙ ih s (h ++ c ∷ [])
       ∙ sym (ap (λ (x : List (List ℕ)). lines m s (onto h x)) (lines-false c t e) ∙ ap (lines m s) (onto-before h c (linesOf t)))
 

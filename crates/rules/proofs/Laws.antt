@@ -9,11 +9,12 @@ use lib.ListN.{length, getD, set, replicate}
 use lib.Seq.{getD-set-same, getD-set-other}
 use lib.Dec.{eqb}
 use borrow.Author.Tests.{lt-ltb, le-ltb, le-leb, eq-eqb, ne-eqb}
+use Rattle.refinement.specs.Formed.{zeros}
 use Rattle.definition.specs.Pool.{most}
 use Rattle.definition.specs.Words.{_=?_}
 use Rattle.refinement.specs.Table.{by-eq}
-use Rattle.refinement.specs.Rules.{isShelved}
-use Rattle.rules.specs.Tests.{every, tally, among, bit, blankPast, newId, listedAt, orderRight}
+use Rattle.refinement.specs.Rules.{isShelved, bit}
+use Rattle.rules.specs.Tests.{every, tally, among, blankPast, newId, listedAt, orderRight}
 
 -- ── every ──
 
@@ -190,11 +191,6 @@ module _ (a seats : List ℕ) (i e : ℕ) (is : e ≡ getD a i 0) where
 pub met-none : (a : List ℕ) → Met a 0 (replicate most 0)
 unfolding among
 met-none a e = rw (zeros most e)
-  where
-    zeros : (n j : ℕ) → getD {A = ℕ} (replicate n 0) j 0 ≡ 0
-    zeros zero j = refl
-    zeros (suc n) zero = refl
-    zeros (suc n) (suc j) = zeros n j
 
 -- ── and ──
 

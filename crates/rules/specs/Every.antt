@@ -10,12 +10,12 @@ use Rattle.definition.specs.Words.{if_then_else_, _=?_}
 use Rattle.slots.specs.View.{Slot, waiterOf}
 use Rattle.slots.specs.Slots.{vacant}
 use Rattle.slots.specs.Needs.{taken}
-use Rattle.refinement.specs.Table.{by-eq, by-bool, one, one-pos, one-zero}
+use Rattle.refinement.specs.Table.{by-eq, by-bool, one, one-pos, one-zero, or-left, or-right}
 use Rattle.refinement.specs.Agree.{Class}
 use Rattle.refinement.specs.Kept.{All, Distinct, all-at}
 use Rattle.refinement.specs.Stands.{Rises}
-use Rattle.refinement.specs.Rules.{many, collect}
-use Rattle.rules.specs.Tests.{every, tally, among, bit, isTaken, before}
+use Rattle.refinement.specs.Rules.{many, collect, bit, many-none, many-bit, taken-cons}
+use Rattle.rules.specs.Tests.{every, tally, among, isTaken, before}
 
 pub and-left : (a b : Bool) → (a && b) ≡ true → a ≡ true
 and-left true b h = refl
@@ -28,9 +28,9 @@ and-right false b h = absurd (false≢true h)
 pub both-true : {a b : Bool} → a ≡ true → b ≡ true → (a && b) ≡ true
 both-true p q = rw (p, q)
 
-pub or-right : (a b : Bool) → a ≡ false → (a || b) ≡ true → b ≡ true
-or-right true b h k = absurd (true≢false h)
-or-right false b h k = k
+pub or-other : (a b : Bool) → a ≡ false → (a || b) ≡ true → b ≡ true
+or-other true b h k = absurd (true≢false h)
+or-other false b h k = k
 
 -- ── every ──
 
@@ -49,21 +49,13 @@ all-every (suc n) t h = both-true (all-every n t (λ j k. h j (omega arith))) (h
 
 -- ── among ──
 
-or-none-left : (a b : Bool) → (a || b) ≡ false → a ≡ false
-or-none-left true b h = absurd (true≢false h)
-or-none-left false b h = refl
-
-or-none-right : (a b : Bool) → (a || b) ≡ false → b ≡ false
-or-none-right true b h = absurd (true≢false h)
-or-none-right false b h = h
-
 absent : (x n : ℕ) (l : List ℕ) → among x n l ≡ false → (j : ℕ) → j < n → getD l j 0 ≡ x → ⊥
 unfolding among
 absent x zero l h j k e = absurd (omega arith)
 absent x (suc n) l h j k e =
     by-eq j n
-    (λ i. eqb-false (getD l n 0) x (or-none-right (among x n l) (getD l n 0 =? x) h) (ap (λ (y : ℕ). getD l y 0) (sym i) ∙ e))
-    (λ i. absent x n l (or-none-left (among x n l) (getD l n 0 =? x) h) j (omega arith) e)
+    (λ i. eqb-false (getD l n 0) x (or-right (among x n l) (getD l n 0 =? x) h) (ap (λ (y : ℕ). getD l y 0) (sym i) ∙ e))
+    (λ i. absent x n l (or-left (among x n l) (getD l n 0 =? x) h) j (omega arith) e)
 
 present-not : (x n : ℕ) (l : List ℕ) → ((j : ℕ) → j < n → getD l j 0 ≡ x → ⊥) → among x n l ≡ false
 unfolding among
@@ -119,14 +111,6 @@ none-collected : (t : Class) (ss : List Slot) → many t [] ss ≡ 0
 unfolding collect
 none-collected t ss = refl
 
-many-none : (t : Class) (x : ℕ) (xs : List ℕ) (s : Slot) (ss : List Slot) → x ≡ 0 → many t (x ∷ xs) (s ∷ ss) ≡ many t xs ss
-unfolding collect if_then_else_
-many-none t x xs s ss e = rw (eq-eqb x 0 e)
-
-many-bit : (t : Class) (x : ℕ) (xs : List ℕ) (s : Slot) (ss : List Slot) → (x ≡ 0 → ⊥) → many t (x ∷ xs) (s ∷ ss) ≡ bit (t (s .state)) + many t xs ss
-unfolding collect if_then_else_
-many-bit t x xs s ss n = by-bool (t (s .state)) (λ b. rw (ne-eqb x 0 n, b) (omega arith)) (λ b. rw (ne-eqb x 0 n, b) (omega arith))
-
 abbrev pub kinds : Class → List Slot → ℕ → Bool
 kinds t ss j = t (getD ss j vacant .state)
 
@@ -144,10 +128,6 @@ many-tally t (x ∷ xs) (s ∷ ss) l h =
 no-taken : taken [] ≡ 0
 unfolding taken
 no-taken = refl
-
-taken-cons : (x : ℕ) (xs : List ℕ) → taken (x ∷ xs) ≡ one x + taken xs
-unfolding taken
-taken-cons x xs = refl
 
 -- as many ids as taken slots
 pub taken-tally : (xs : List ℕ) (ss : List Slot) → length ss ≡ length xs → ((j : ℕ) → getD xs j 0 ≡ 0 → kinds isTaken ss j ≡ false) → ((j : ℕ) → 0 < getD xs j 0 → kinds isTaken ss j ≡ true) → taken xs ≡ tally (length xs) (kinds isTaken ss)

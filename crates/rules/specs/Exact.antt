@@ -24,7 +24,7 @@ use Rattle.refinement.specs.Stands.{Limits, Rises, Formed}
 use Rattle.refinement.specs.Formed.{limits-of}
 use Rattle.refinement.specs.Rules.{Rules, isShelved, many, rules-formed, formed-rules}
 use Rattle.rules.specs.Tests.{every, tally, among, isTaken, blankPast, slotFits, before, waiterFits, idsBelow, newId, idsDistinct, slotsFit, howMany, countsRight, listedAt, orderRight, blankFrom, queueRises, keepsRules}
-use Rattle.rules.specs.Every.{and-left, and-right, both-true, or-right, every-all, all-every, not-among, new-among, all-of, distinct-of, distinct-has, past, tally-same, kinds, many-tally, taken-tally, rises-of, rises-at}
+use Rattle.rules.specs.Every.{and-left, and-right, both-true, or-other, every-all, all-every, not-among, new-among, all-of, distinct-of, distinct-has, past, tally-same, kinds, many-tally, taken-tally, rises-of, rises-at}
 
 -- ── Options ────────────────────────────────────────────────────────────────────────────────────────────────────────────
 
@@ -50,7 +50,7 @@ module _ (cs : List ℕ) (l : length (take most cs) ≡ most) where
   unfolding idsDistinct
   new-say h i j k low z e =
       let n : getD cs j 0 ≡ 0 → ⊥ = λ q. omega arith in
-      not-among (getD cs j 0) j cs (or-right (getD cs j 0 =? 0) (not (among (getD cs j 0) j cs)) (ne-eqb (getD cs j 0) 0 n) (every-all most (newId cs) h j low)) i k e
+      not-among (getD cs j 0) j cs (or-other (getD cs j 0 =? 0) (not (among (getD cs j 0) j cs)) (ne-eqb (getD cs j 0) 0 n) (every-all most (newId cs) h j low)) i k e
 
   distinct-say : idsDistinct cs ≡ true → Unique (take most cs)
   distinct-say h i j a b z e =
@@ -211,7 +211,7 @@ blank-say : (size n : ℕ) (l : List ℕ) → length l ≡ size → blankFrom si
 unfolding blankFrom
 blank-say size n l e h j k =
     by-lt j size
-    (λ q. eqb-true (getD l j 0) 0 (or-right (j <? n) (getD l j 0 =? 0) (le-ltb j n k) (every-all size (λ i. blankPast n i (getD l i 0)) h j q)))
+    (λ q. eqb-true (getD l j 0) 0 (or-other (j <? n) (getD l j 0 =? 0) (le-ltb j n k) (every-all size (λ i. blankPast n i (getD l i 0)) h j q)))
     (λ q. past l 0 j (omega arith))
 
 blank-pass : (size n : ℕ) (l : List ℕ) → ((j : ℕ) → n ≤ j → getD l j 0 ≡ 0) → blankFrom size n l ≡ true

@@ -9,17 +9,13 @@ use Rattle.definition.specs.Refusals.{lastNextId}
 use Rattle.slots.specs.declared.Head.{Head}
 use Rattle.refinement.specs.Agree.{Class}
 use Rattle.refinement.specs.Kept.{isPending}
-use Rattle.refinement.specs.Rules.{isShelved}
+use Rattle.refinement.specs.Rules.{isShelved, bit}
 
 -- ── Words: of all places below n; how many of them; among the first n ──────────────────────────────────────────────────
 
 unfoldable pub every : ℕ → (ℕ → Bool) → Bool
 every zero t = true
 every (suc n) t = every n t && t n
-
-abbrev pub bit : Bool → ℕ
-bit true = 1
-bit false = 0
 
 unfoldable pub tally : ℕ → (ℕ → Bool) → ℕ
 tally zero t = 0

@@ -7,8 +7,8 @@ ghost use Rattle.definition.specs.Pool.{most, queueLength};
 ghost use Rattle.definition.specs.Words.{_=?_, _<?_};
 ghost use Rattle.slots.specs.View.{Whole, given, before};
 ghost use Rattle.refinement.specs.Kept.{isPending};
-ghost use Rattle.refinement.specs.Rules.{isShelved};
-ghost use Rattle.rules.specs.Tests.{bit, among, blankPast, isTaken, slotFits, waiterFits, idsBelow, idsDistinct, slotsFit, countsRight, orderRight, blankFrom, queueRises};
+ghost use Rattle.refinement.specs.Rules.{isShelved, bit};
+ghost use Rattle.rules.specs.Tests.{among, isTaken, slotFits, waiterFits, idsBelow, idsDistinct, slotsFit, countsRight, orderRight, blankFrom, queueRises};
 ghost use Rattle.rules.specs.Exact.{Exactly};
 use pool::both;
 use slots::Cells;
@@ -36,12 +36,6 @@ fn wide(x: u8) -> usize
     x as usize
 }
 
-fn long(x: u8) -> u64
-    ensures { λ r. ⌜ r ≡ x ⌝ }
-{
-    x as u64
-}
-
 fn is_taken(state: u8) -> bool
     ensures { λ r. ⌜ r ≡ isTaken state ⌝ }
 {
@@ -66,15 +60,6 @@ fn below(x: u32, y: u32) -> bool
     ensures { λ r. ⌜ r ≡ x <? y ⌝ }
 {
     x < y
-}
-
-fn blank_past(n: usize, i: usize, x: u64) -> bool
-    ensures { λ r. ⌜ r ≡ blankPast n i x ⌝ }
-{
-    if i < n {
-        return true;
-    }
-    x == 0
 }
 
 fn slot_fits(id: u32, generation: u32, time: u64, state: u8) -> bool
@@ -216,13 +201,19 @@ fn order_right(seats: &Seats, n: usize) -> bool
     true
 }
 
+// With no return in the loop, so that several are looked at at once.
 fn order_blank_from(seats: &Seats, n: usize) -> bool
     ensures { λ r. ⌜ r ≡ blankFrom most n (drop most (now (seats .entry))) ⌝ }
 {
+    if SLOTS < n {
+        return true;
+    }
     let mut ok = true;
-    let mut i: usize = 0;
+    let mut i = n;
     while i < SLOTS {
-        ok = both(ok, blank_past(n, i, long(seats[SLOTS + i])));
+        if seats[SLOTS + i] != 0 {
+            ok = false;
+        }
         i += 1;
     }
     ok
@@ -248,7 +239,7 @@ fn queue_rises(waiters: &Waiters, n: usize, last: u32) -> bool
     ok
 }
 
-// With no return in the loop, so that several are looked at at once.
+// As order_blank_from, of the queue.
 fn queue_blank_from(waiters: &Waiters, n: usize) -> bool
     ensures { λ r. ⌜ r ≡ blankFrom queueLength n (now (waiters .entry)) ⌝ }
 {

@@ -1,39 +1,36 @@
-use mathlib.Core.Path.{_≡_, sym, ap, _∙_}
-use Prim.Native.Nat.{ℕ, _≤_, _-_}
+use mathlib.Core.Path.{_≡_, sym, _∙_}
+use mathlib.Core.Logic.{⊎-elim}
+use Prim.Native.Nat.{_+_, _≤_, _-_}
 use native.Mathlib.Omega.{arith}
 use lib.ListN.{getD, drop}
 use lib.Seq.{getD-drop}
-use denote.Ref.{now}
 use Rattle.definition.specs.Pool.{most}
 use Rattle.rules.specs.Tests.{every, blankPast, blankFrom}
-use Rattle.rules.proofs.Laws.{every-more, every-none}
+use Rattle.rules.proofs.Laws.{blank-before, blank-lost, blank-kept}
 use borrow.Author.Needs.{needs}
 use Rattle.rules.proofs.order_blank_from.Statement.{statement}
 use Rattle.rules.proofs.order_blank_from.Tie as tie
+use Rattle.rules.proofs.order_blank_from.Reads as reads
+use Rattle.rules.proofs.order_blank_from.Lts as lts
 
 abbrev Inv-loop : tie.InvT-loop
-Inv-loop seats n ok₀ i₀ ok i = (i ≤ most) × (ok ≡ every i (λ j. blankPast n j (getD (drop most seats) j 0)))
+Inv-loop seats n ok₀ i₀ ok i = (n ≤ i) × (i ≤ most) × (ok ≡ every i (λ j. blankPast n j (getD (drop most seats) j 0)))
 
 abbrev μ-loop : tie.MeasureT-loop
 μ-loop seats n ok₀ i₀ ok i = most - i
 
+returns : tie.Need-returns Inv-loop μ-loop
+unfolding blankFrom
+returns c = let a = c .before .args in blank-before (a .n) (drop most (a .seats .now)) most (omega (arith, c .if1 .taken))
+
 loop-holds : tie.Need-loop-holds Inv-loop μ-loop
-loop-holds c = (search needs, every-none _)
+loop-holds c = let a = c .before .args in (omega arith, omega arith, blank-before (a .n) (drop most (a .seats .now)) (a .n) (omega arith))
 
-add-long : tie.Need-add-long Inv-loop μ-loop
-add-long c = search needs
+add-if2 : tie.Need-add-if2 Inv-loop μ-loop
+add-if2 c = search needs
 
-element-copy-out-long : tie.Need-element-copy-out-long Inv-loop μ-loop
-element-copy-out-long c = search needs
-
-long-requires : tie.Need-long-requires Inv-loop μ-loop
-long-requires c κs = search needs
-
-blank-past-requires : tie.Need-blank-past-requires Inv-loop μ-loop
-blank-past-requires c κs = search needs
-
-both-requires : tie.Need-both-requires Inv-loop μ-loop
-both-requires c κs = search needs
+element-copy-out-if2 : tie.Need-element-copy-out-if2 Inv-loop μ-loop
+element-copy-out-if2 c = search needs
 
 add-i : tie.Need-add-i Inv-loop μ-loop
 add-i c = search needs
@@ -43,13 +40,15 @@ loop-less c = search needs
 
 loop-again : tie.Need-loop-again Inv-loop μ-loop
 loop-again c =
-    let a = c .before .before .before .before .before .before .args in
-    let i = c .before .before .before .before .before .loop .i in
-    (search needs, every-more _ _ _ _ _ (c .before .before .before .before .before .loop .inv .1) (c .before .blank-past .ensures ∙ ap (λ (x : ℕ). blankPast (a .n) i x) (c .before .before .long .ensures ∙ sym (getD-drop most (a .seats .now) i 0))) (c .both .ensures))
+    let v = c .before .before .before .loop in
+    let a = c .before .before .before .before .before .args in
+    let l = drop most (a .seats .now) in
+    let e : getD l (v .i) 0 ≡ getD (a .seats .now) (most + v .i) 0 = getD-drop most (a .seats .now) (v .i) 0 in
+    (omega arith, omega arith, ⊎-elim (λ w. w .1 ∙ blank-lost (a .n) l (v .i) (v .inv .0) (λ z. w .0 .taken (sym e ∙ z))) (λ w. w .1 ∙ blank-kept (a .n) l (v .i) (v .inv .0) (v .ok) (v .inv .2) (e ∙ w .0 .left)) (c .if2 .came))
 
-returns : tie.Need-returns Inv-loop μ-loop
+returns-2 : tie.Need-returns-2 Inv-loop μ-loop
 unfolding blankFrom
-returns c = let e : c .before .loop .i ≡ most = omega arith in rw e at (c .before .loop .inv .1)
+returns-2 c = let e : c .before .loop .i ≡ most = omega arith in rw e at (c .before .loop .inv .2)
 
 pub order-blank-from-spec : {M : Type 1} → statement M
 order-blank-from-spec =
@@ -57,13 +56,11 @@ order-blank-from-spec =
     (tie.spec
     Inv-loop
     μ-loop
+    returns
     loop-holds
-    add-long
-    element-copy-out-long
-    long-requires
-    blank-past-requires
-    both-requires
+    add-if2
+    element-copy-out-if2
     add-i
     loop-less
     loop-again
-    returns)
+    returns-2)

@@ -25,18 +25,6 @@ pub struct Core {
     pub count: u32,
 }
 
-pub fn wide(x: u8) -> usize
-    ensures { λ r. ⌜ r ≡ x ⌝ }
-{
-    x as usize
-}
-
-pub fn long(x: u32) -> u64
-    ensures { λ r. ⌜ r ≡ x ⌝ }
-{
-    x as u64
-}
-
 pub fn is_ready(s: PoolState) -> bool
     ensures { λ r. ⌜ r ≡ isReady s ⌝ }
 {
@@ -106,7 +94,7 @@ pub fn close_connection(
     requires { ⌜ Whole (given head cells times seats waiters) × CanClose (given head cells times seats waiters) i × Room 1 n (now out) × (0 < reason) × (reason ≤ 5) ⌝ }
     ensures { λ r. ⌜ Done (closeAt (reasonOf reason) i (before head cells times seats waiters)) (head .serial) n (now (out .entry)) (after (r .head) cells times seats waiters) (r .count) (now (out .exit)) ⌝ }
 {
-    table::emit(out, n, head.serial, 4, reason, long(cells[i]), 0);
+    table::emit(out, n, head.serial, 4, reason, words::long(cells[i]), 0);
     cells[i] = 0;
     cells[SLOTS + i] = 0;
     times[i] = 0;
@@ -209,7 +197,7 @@ pub fn create_pending_connection(
 {
     let i = table::find(cells, 0);
     let id = head.next_connection_id;
-    table::emit(out, n, head.serial, 1, 0, long(id), 0);
+    table::emit(out, n, head.serial, 1, 0, words::long(id), 0);
     let m = head.mode;
     cells[i] = id;
     cells[SLOTS + i] = m.generation;

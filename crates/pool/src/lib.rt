@@ -1,6 +1,5 @@
 // The pool as a value: its type, its making, its counts, and the columns that the engine works on.
 ghost use mathlib.Core.Path.{_≡_};
-ghost use mathlib.Core.Bool.{_&&_};
 ghost use Prim.Native.Nat.{_-_};
 ghost use Rattle.definition.specs.Pool.{stateNo, orDefault, withDefaults, inRange};
 ghost use Rattle.definition.specs.Bytes.{optionsOf};
@@ -24,6 +23,7 @@ use slots::Seats;
 use slots::Times;
 use slots::Waiters;
 use text::Given;
+use words::both;
 
 pub struct Slot {
     pub id: u32,
@@ -173,16 +173,6 @@ pub fn with_defaults(o: Options) -> Options
         connecting: or_default(Pool::DEFAULT_MAX_CONNECTING, o.connecting),
         idle: o.idle,
     }
-}
-
-// Both are known before: no branch in a loop.
-pub fn both(a: bool, b: bool) -> bool
-    ensures { λ r. ⌜ r ≡ a && b ⌝ }
-{
-    if a {
-        return b;
-    }
-    false
 }
 
 const MOST: u32 = SLOTS as u32;

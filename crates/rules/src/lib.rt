@@ -10,7 +10,6 @@ ghost use Rattle.refinement.specs.Kept.{isPending};
 ghost use Rattle.refinement.specs.Rules.{isShelved, bit};
 ghost use Rattle.rules.specs.Tests.{among, isTaken, slotFits, waiterFits, idsBelow, idsDistinct, slotsFit, countsRight, orderRight, blankFrom, queueRises};
 ghost use Rattle.rules.specs.Exact.{Exactly};
-use pool::both;
 use slots::Cells;
 use slots::Head;
 use slots::QUEUE;
@@ -18,6 +17,7 @@ use slots::SLOTS;
 use slots::Seats;
 use slots::Times;
 use slots::Waiters;
+use words::both;
 
 // ── words ──
 
@@ -28,12 +28,6 @@ fn one_if(b: bool) -> u32
         return 1;
     }
     0
-}
-
-fn wide(x: u8) -> usize
-    ensures { λ r. ⌜ r ≡ x ⌝ }
-{
-    x as usize
 }
 
 fn is_taken(state: u8) -> bool
@@ -185,7 +179,7 @@ fn order_right(seats: &Seats, n: usize) -> bool
     let mut met: [u8; SLOTS] = [0; SLOTS];
     let mut i: usize = 0;
     while i < n {
-        let e = wide(seats[SLOTS + i]);
+        let e = words::wide(seats[SLOTS + i]);
         if SLOTS <= e {
             return false;
         }

@@ -107,7 +107,7 @@ pub fn take_available(
     let mut k = head.available_count;
     while 0 < k {
         k = k - 1;
-        let i = acts::wide(seats[SLOTS + k]);
+        let i = words::wide(seats[SLOTS + k]);
         let m = h.mode;
         let o = h.options;
         let r = acts::perished(m.generation, o.idle, h.clock, cells[SLOTS + i], times[i]);

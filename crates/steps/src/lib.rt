@@ -40,14 +40,14 @@ pub fn request(
     let st = m.state;
     match st {
         PoolState::New => {
-            table::emit(out, n, h.serial, 19, 0, acts::long(id), 0);
+            table::emit(out, n, h.serial, 19, 0, words::long(id), 0);
             Core {
                 head: h,
                 count: n + 1,
             }
         }
         PoolState::Paused(cause) => {
-            table::emit(out, n, h.serial, 19, 0, acts::long(id), cause);
+            table::emit(out, n, h.serial, 19, 0, words::long(id), cause);
             Core {
                 head: h,
                 count: n + 1,
@@ -55,7 +55,7 @@ pub fn request(
         }
         PoolState::Ready => {
             let k = h.waiting_count;
-            waiters[k] = 4 * acts::long(id) + mark(warm);
+            waiters[k] = 4 * words::long(id) + mark(warm);
             h.waiting_count = k + 1;
             Core { head: h, count: n }
         }
@@ -115,7 +115,7 @@ pub fn check_in(
     if acts::is_closed(st) {
         return acts::close_connection(head, cells, times, seats, waiters, out, n, i, 5);
     }
-    table::emit(out, n, head.serial, 3, 0, acts::long(cells[i]), 0);
+    table::emit(out, n, head.serial, 3, 0, words::long(cells[i]), 0);
     if errored {
         return acts::close_connection(head, cells, times, seats, waiters, out, n + 1, i, 3);
     }
@@ -179,7 +179,7 @@ pub fn handle_connection_succeeded(
     requires { ⌜ Whole (given head cells times seats waiters) × CanLeave (given head cells times seats waiters) i × Room 1 n (now out) ⌝ }
     ensures { λ r. ⌜ Done (succeededAt i (before head cells times seats waiters)) (head .serial) n (now (out .entry)) (after (r .head) cells times seats waiters) (r .count) (now (out .exit)) ⌝ }
 {
-    table::emit(out, n, head.serial, 2, 0, acts::long(cells[i]), 0);
+    table::emit(out, n, head.serial, 2, 0, words::long(cells[i]), 0);
     let mut h = head;
     h.pending_connection_count = h.pending_connection_count - 1;
     acts::turn(h, cells, times, seats, waiters, i, 2);
@@ -204,7 +204,7 @@ pub fn handle_connection_succeeded_for_pool(
     requires { ⌜ Whole (given head cells times seats waiters) × CanLeave (given head cells times seats waiters) i × Room 2 n (now out) ⌝ }
     ensures { λ r. ⌜ Done (succeededForPoolAt i opened (before head cells times seats waiters)) (head .serial) n (now (out .entry)) (after (r .head) cells times seats waiters) (r .count) (now (out .exit)) ⌝ }
 {
-    table::emit(out, n, head.serial, 2, 0, acts::long(cells[i]), 0);
+    table::emit(out, n, head.serial, 2, 0, words::long(cells[i]), 0);
     let mut h = head;
     h.pending_connection_count = h.pending_connection_count - 1;
     let m = h.mode;

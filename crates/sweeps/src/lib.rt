@@ -65,7 +65,7 @@ pub fn remove_perished_connections(
     let mut count = n;
     let mut k = head.available_count;
     while 0 < k {
-        let i = acts::wide(seats[SLOTS]);
+        let i = words::wide(seats[SLOTS]);
         let m = h.mode;
         let o = h.options;
         let r = acts::perished(m.generation, o.idle, h.clock, cells[SLOTS + i], times[i]);
@@ -145,7 +145,7 @@ pub fn close_available(
     let mut count = n;
     let mut k = head.available_count;
     while 0 < k {
-        let i = acts::wide(seats[SLOTS]);
+        let i = words::wide(seats[SLOTS]);
         h = acts::pop_front(h, cells, times, seats, waiters);
         let c = acts::close_connection(h, cells, times, seats, waiters, out, count, i, 5);
         h = c.head;

@@ -1,4 +1,6 @@
 // What the benchmark's programs count, and how they tell it.
+ghost use mathlib.Core.Path.{_≡_};
+ghost use Rattle.tally.specs.Count.{withOne};
 use libc::STDOUT_FILENO;
 use slots::Outcome;
 
@@ -7,24 +9,28 @@ pub struct Tally {
     pub records: u64,
 }
 
-pub fn none() -> Tally {
+pub fn none() -> Tally
+    ensures { λ r. ⌜ r ≡ record { refused = 0; records = 0 } ⌝ }
+{
     Tally {
         refused: 0,
         records: 0,
     }
 }
 
-pub fn counted(tally: Tally, outcome: Outcome) -> Tally {
-    let mut t = tally;
+pub fn counted(tally: Tally, outcome: Outcome) -> Tally
+    ensures { λ r. ⌜ r ≡ withOne tally outcome ⌝ }
+{
     match outcome {
-        Outcome::Refused(_) => {
-            t.refused = std::num::wrapping_add_u64(t.refused, 1);
-        }
-        Outcome::Accepted(n) => {
-            t.records = std::num::wrapping_add_u64(t.records, n as u64);
-        }
+        Outcome::Refused(_) => Tally {
+            refused: std::num::wrapping_add_u64(tally.refused, 1),
+            records: tally.records,
+        },
+        Outcome::Accepted(n) => Tally {
+            refused: tally.refused,
+            records: std::num::wrapping_add_u64(tally.records, n as u64),
+        },
     }
-    t
 }
 
 pub fn tell(t: Tally) {

@@ -97,7 +97,7 @@ fn clear_ready(
             head.serial,
             6,
             flag(timeout),
-            acts::long(cause),
+            words::long(cause),
             next_generation(m.generation),
         );
         return sweeps::tell_all(head, cells, times, seats, waiters, out, n + 1, 19, cause);

@@ -10,7 +10,7 @@ use Rattle.acts.proofs.close_connection.Statement.{statement}
 use Rattle.acts.proofs.close_connection.Tie as tie
 use Rattle.acts.proofs.close_connection.Reads as reads
 use Rattle.acts.proofs.close_connection.Lts as lts
-use Rattle.acts.proofs.long.Reads as long-reads
+use Rattle.words.proofs.long.Reads as long-reads
 use Rattle.table.proofs.emit.Reads as emit-reads
 
 mul-long : tie.Need-mul-long

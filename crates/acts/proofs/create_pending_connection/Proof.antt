@@ -15,7 +15,7 @@ use Rattle.acts.proofs.create_pending_connection.Statement.{statement}
 use Rattle.acts.proofs.create_pending_connection.Tie as tie
 use Rattle.acts.proofs.create_pending_connection.Reads as reads
 use Rattle.acts.proofs.create_pending_connection.Lts as lts
-use Rattle.acts.proofs.long.Reads as long-reads
+use Rattle.words.proofs.long.Reads as long-reads
 use Rattle.table.proofs.emit.Reads as emit-reads
 use Rattle.table.proofs.find.Reads as find-reads
 

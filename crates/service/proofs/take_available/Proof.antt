@@ -16,7 +16,7 @@ use Rattle.service.proofs.take_available.Lts as lts
 use Rattle.acts.proofs.close_connection.Reads as close-connection-reads
 use Rattle.acts.proofs.perished.Reads as perished-reads
 use Rattle.acts.proofs.pop_back.Reads as pop-back-reads
-use Rattle.acts.proofs.wide.Reads as wide-reads
+use Rattle.words.proofs.wide.Reads as wide-reads
 use Rattle.service.proofs.establish.Reads as establish-reads
 use Rattle.service.proofs.lend.Reads as lend-reads
 

@@ -20,7 +20,7 @@ use Rattle.steps.proofs.check_in.Reads as reads
 use Rattle.steps.proofs.check_in.Lts as lts
 use Rattle.acts.proofs.close_connection.Reads as close-connection-reads
 use Rattle.acts.proofs.is_closed.Reads as is-closed-reads
-use Rattle.acts.proofs.long.Reads as long-reads
+use Rattle.words.proofs.long.Reads as long-reads
 use Rattle.acts.proofs.shelve.Reads as shelve-reads
 use Rattle.table.proofs.emit.Reads as emit-reads
 

@@ -11,7 +11,7 @@ use Rattle.steps.proofs.handle_connection_succeeded.Statement.{statemen
 use Rattle.steps.proofs.handle_connection_succeeded.Tie as tie
 use Rattle.steps.proofs.handle_connection_succeeded.Reads as reads
 use Rattle.steps.proofs.handle_connection_succeeded.Lts as lts
-use Rattle.acts.proofs.long.Reads as long-reads
+use Rattle.words.proofs.long.Reads as long-reads
 use Rattle.acts.proofs.turn.Reads as turn-reads
 use Rattle.table.proofs.emit.Reads as emit-reads
 

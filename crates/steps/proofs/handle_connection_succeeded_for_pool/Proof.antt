@@ -18,7 +18,7 @@ use Rattle.steps.proofs.handle_connection_succeeded_for_pool.Reads as r
 use Rattle.steps.proofs.handle_connection_succeeded_for_pool.Lts as lts
 use Rattle.acts.proofs.close_connection.Reads as close-connection-reads
 use Rattle.acts.proofs.is_closed.Reads as is-closed-reads
-use Rattle.acts.proofs.long.Reads as long-reads
+use Rattle.words.proofs.long.Reads as long-reads
 use Rattle.acts.proofs.shelve.Reads as shelve-reads
 use Rattle.table.proofs.emit.Reads as emit-reads
 

@@ -12,7 +12,7 @@ use Rattle.steps.proofs.request.Statement.{statement}
 use Rattle.steps.proofs.request.Tie as tie
 use Rattle.steps.proofs.request.Reads as reads
 use Rattle.steps.proofs.request.Lts as lts
-use Rattle.acts.proofs.long.Reads as long-reads
+use Rattle.words.proofs.long.Reads as long-reads
 use Rattle.steps.proofs.mark.Reads as mark-reads
 use Rattle.table.proofs.emit.Reads as emit-reads
 

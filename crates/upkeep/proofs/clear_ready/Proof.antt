@@ -14,7 +14,7 @@ use Rattle.upkeep.proofs.clear_ready.Tie as tie
 use Rattle.upkeep.proofs.clear_ready.Reads as reads
 use Rattle.upkeep.proofs.clear_ready.Lts as lts
 use Rattle.acts.proofs.is_ready.Reads as is-ready-reads
-use Rattle.acts.proofs.long.Reads as long-reads
+use Rattle.words.proofs.long.Reads as long-reads
 use Rattle.sweeps.proofs.tell_all.Reads as tell-all-reads
 use Rattle.table.proofs.emit.Reads as emit-reads
 use Rattle.upkeep.proofs.flag.Reads as flag-reads

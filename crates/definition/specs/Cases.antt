@@ -6,7 +6,7 @@ use lib.ListN.{take, getD}
 use Rattle.definition.specs.Words.{if_then_else_}
 use Rattle.definition.specs.Pool.{Pool, fresh, withDefaults, inRange}
 use Rattle.definition.specs.Records.{told}
-use Rattle.definition.specs.Steps.{_>>_, leaveLent, leavePending, shelve, lendOut, createPendingConnection, createMany, closePerished, tellAll, mode, queue, request, abandon, checkIn, clear, markAsReady, succeeded, succeededForPool, failed, removePerished, ensureMinConnections, maintenance, repin, shut, own, canService, establish, lend, takeAvailable, checkOut, serveFront, service, event}
+use Rattle.definition.specs.Steps.{_>>_, leaveLent, leavePending, shelve, lendOut, createPendingConnection, createMany, closePerished, tellAll, enter, queue, request, abandon, checkIn, clear, markAsReady, succeeded, succeededForPool, failed, removePerished, ensureMinConnections, maintenance, repin, shut, handle, canService, establish, lend, takeAvailable, checkOut, serveFront, service, event}
 use Rattle.definition.specs.Refusals.{refusalNo, first, tests, Result, Refused, Accepted, outcome, step, Call, run, enoughRoom, make}
 use Rattle.definition.specs.Bytes.{be4, be8, at4, at8, frameOfFields, frameOf, optionsOf, recordBytes, digitOf, valueOf, hexOf, unhex, newline, lineOf, bytesOf, frameOfLine, optionsOfLine}
 use Rattle.definition.specs.Day.{numbered, entryBytes, textOf, linesOf, frames, day, logOf, framesUsed}
@@ -89,7 +89,7 @@ answered c =
     answerOf p (step p (frameOf (c .given)) enoughRoom)
 
 pub ten-cases : map answered cases ≡ map expected cases
-unfolding answered cases dayCase theDay five maintain run step tests first outcome frameOf frameOfFields at4 at8 event own request queue markAsReady succeeded checkIn maintenance removePerished closePerished ensureMinConnections createMany service canService serveFront checkOut takeAvailable lend establish createPendingConnection told leaveLent leavePending shelve lendOut mode _>>_ if_then_else_ numbered entryBytes recordBytes
+unfolding answered cases dayCase theDay five maintain run step tests first outcome frameOf frameOfFields at4 at8 event handle request queue markAsReady succeeded checkIn maintenance removePerished closePerished ensureMinConnections createMany service canService serveFront checkOut takeAvailable lend establish createPendingConnection told leaveLent leavePending shelve lendOut enter _>>_ if_then_else_ numbered entryBytes recordBytes
 ten-cases = refl
 
 -- ── The whole day ──────────────────────────────────────────────────────────────────────────────────────────────────────
@@ -127,7 +127,7 @@ dayLog =
     0x04030000_00000007_00000001_00000000 ∷ [])
 
 pub whole-day : logOf 100 dayText ≡ dayLog
-unfolding dayText dayLog inLines digits logOf textOf day linesOf frames make inRange optionsOfLine optionsOf frameOfLine bytesOf unhex valueOf digitOf lineOf hexOf step tests first outcome frameOf frameOfFields at4 at8 event own request queue markAsReady succeeded checkIn service canService serveFront checkOut takeAvailable lend establish createPendingConnection told leaveLent leavePending shelve lendOut mode _>>_ if_then_else_ numbered entryBytes recordBytes
+unfolding dayText dayLog inLines digits logOf textOf day linesOf frames make inRange optionsOfLine optionsOf frameOfLine bytesOf unhex valueOf digitOf lineOf hexOf step tests first outcome frameOf frameOfFields at4 at8 event handle request queue markAsReady succeeded checkIn service canService serveFront checkOut takeAvailable lend establish createPendingConnection told leaveLent leavePending shelve lendOut enter _>>_ if_then_else_ numbered entryBytes recordBytes
 whole-day = refl
 
 pub whole-day-used : framesUsed 100 dayText ≡ 6

@@ -9,8 +9,8 @@ use Rattle.definition.specs.Types.{Options, PoolState, New, Paused, Read
 -- ── Options ────────────────────────────────────────────────────────────────────────────────────────────────────────────
 
 -- the most connections that a pool may be given, and pending ones; the queue's length
-abbrev pub most : ℕ
-most = 64
+abbrev pub slotCount : ℕ
+slotCount = 64
 
 abbrev pub queueLength : ℕ
 queueLength = 256
@@ -36,7 +36,7 @@ withDefaults o = record {
 -- maximum 1 to 64, minimum 0 to maximum, max connecting 1 to 64
 unfoldable pub inRange : Options → Bool
 inRange o =
-    1 ≤? o .maximum && o .maximum ≤? most && o .minimum ≤? o .maximum && 1 ≤? o .connecting && o .connecting ≤? most
+    1 ≤? o .maximum && o .maximum ≤? slotCount && o .minimum ≤? o .maximum && 1 ≤? o .connecting && o .connecting ≤? slotCount
 
 -- ── Connections and waiters ────────────────────────────────────────────────────────────────────────────────────────────
 
@@ -73,8 +73,8 @@ fresh o = record { options = o; state = New; generation = 0; nextId = 1; clock =
 
 -- the pool with another value in one place
 module _ (p : Pool) where
-  abbrev pub withMode : PoolState → ℕ → Pool
-  withMode s g = record { options = p .options; state = s; generation = g; nextId = p .nextId; clock = p .clock; lastRequest = p .lastRequest; written = p .written; available = p .available; lent = p .lent; pending = p .pending; waiting = p .waiting }
+  abbrev pub withStatus : PoolState → ℕ → Pool
+  withStatus s g = record { options = p .options; state = s; generation = g; nextId = p .nextId; clock = p .clock; lastRequest = p .lastRequest; written = p .written; available = p .available; lent = p .lent; pending = p .pending; waiting = p .waiting }
 
   abbrev pub withNextId : ℕ → Pool
   withNextId n = record { options = p .options; state = p .state; generation = p .generation; nextId = n; clock = p .clock; lastRequest = p .lastRequest; written = p .written; available = p .available; lent = p .lent; pending = p .pending; waiting = p .waiting }
@@ -155,13 +155,13 @@ without n [] = []
 without n (c ∷ cs) = if c .id =? n then cs else c ∷ without n cs
 
 -- the connection in another state, since the time given
-abbrev pub turned : ConnectionState → ℕ → Conn → Conn
-turned s t c = record { id = c .id; generation = c .generation; time = t; state = s }
+abbrev pub withState : ConnectionState → ℕ → Conn → Conn
+withState s t c = record { id = c .id; generation = c .generation; time = t; state = s }
 
 -- the list with that one turned
-abbrev pub turn : ConnectionState → ℕ → ℕ → List Conn → List Conn
-turn s t n [] = []
-turn s t n (c ∷ cs) = if c .id =? n then turned s t c ∷ cs else c ∷ turn s t n cs
+abbrev pub setState : ConnectionState → ℕ → ℕ → List Conn → List Conn
+setState s t n [] = []
+setState s t n (c ∷ cs) = if c .id =? n then withState s t c ∷ cs else c ∷ setState s t n cs
 
 -- the states by number, to tell them apart
 abbrev pub stateNo : ConnectionState → ℕ

@@ -53,28 +53,28 @@ abbrev pub wrongTime : (second last now : ℕ) → Bool
 wrongTime second last now = now <? second || second <? last
 
 -- the tests of one kind of event
-abbrev pub ofKind : Pool → Event → ℕ → List Test
-ofKind p (CheckOut n) now = requestTests p n
-ofKind p (WarmPool n) now = requestTests p n
-ofKind p (Abandon n) now = (NotWaiting if not (any? (λ w. w .id =? n && not (w .abandoned)) (p .waiting))) ∷ []
-ofKind p (CheckIn n errored executing letGo) now =
+abbrev pub kindTests : Pool → Event → ℕ → List Test
+kindTests p (CheckOut n) now = requestTests p n
+kindTests p (WarmPool n) now = requestTests p n
+kindTests p (Abandon n) now = (NotWaiting if not (any? (λ w. w .id =? n && not (w .abandoned)) (p .waiting))) ∷ []
+kindTests p (CheckIn n errored executing letGo) now =
     (WrongState if not (has n (p .lent))) ∷
     (WrongTime if wrongTime letGo (find n (p .lent) .time) now) ∷ []
-ofKind p (Clear timeout cause) now = []
-ofKind p MarkAsReady now = []
-ofKind p (Succeeded n) now = (WrongState if not (hasIn forRequest n (p .pending))) ∷ []
-ofKind p (SucceededForPool n opened) now =
+kindTests p (Clear timeout cause) now = []
+kindTests p MarkAsReady now = []
+kindTests p (Succeeded n) now = (WrongState if not (hasIn forRequest n (p .pending))) ∷ []
+kindTests p (SucceededForPool n opened) now =
     (WrongState if not (hasIn inBackground n (p .pending))) ∷
     (WrongTime if wrongTime opened (find n (p .pending) .time) now) ∷ []
-ofKind p (Failed n) now = (WrongState if not (has n (p .pending))) ∷ []
-ofKind p Maintenance now = []
-ofKind p FillPool now = []
-ofKind p (Pin n) now =
+kindTests p (Failed n) now = (WrongState if not (has n (p .pending))) ∷ []
+kindTests p Maintenance now = []
+kindTests p FillPool now = []
+kindTests p (Pin n) now =
     (AlreadyPinned if hasIn pinned n (p .lent)) ∷
     (WrongState if not (hasIn unpinned n (p .lent))) ∷ []
-ofKind p (ReturnToPinner n) now = (WrongState if not (hasIn pinnedInUse n (p .lent))) ∷ []
-ofKind p (TakeFromPinner n) now = (WrongState if not (hasIn pinned n (p .lent))) ∷ []
-ofKind p Close now = []
+kindTests p (ReturnToPinner n) now = (WrongState if not (hasIn pinnedInUse n (p .lent))) ∷ []
+kindTests p (TakeFromPinner n) now = (WrongState if not (hasIn pinned n (p .lent))) ∷ []
+kindTests p Close now = []
 
 -- 4: a closed pool still takes kinds 4, 7 to 9 and 12 to 14
 abbrev pub takenAfterClose : Event → Bool
@@ -93,7 +93,7 @@ tests p (Good e now) room =
     (ClockBack if now <? p .clock) ∷
     (AfterClose if isClosed (p .state) && not (takenAfterClose e)) ∷
     (NumbersSpent if numbersSpent p e) ∷
-    ofKind p e now
+    kindTests p e now
 
 -- ── One call, and a run of calls ───────────────────────────────────────────────────────────────────────────────────────
 

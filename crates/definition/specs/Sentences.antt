@@ -7,9 +7,9 @@ use Prim.Native.Nat.{ℕ, _+_, _*_, _≤_}
 use lib.ListN.{length, length-append}
 use native.Mathlib.Omega.{arith}
 use Rattle.definition.specs.Words.{if_then_else_, _=?_, _∷ʳ_}
-use Rattle.definition.specs.Pool.{Pool, Conn, Waiter, isClosed, stale, perished, find, turned, withAvailable}
+use Rattle.definition.specs.Pool.{Pool, Conn, Waiter, isClosed, stale, perished, find, withState, withAvailable}
 use Rattle.definition.specs.Records.{Record, ConnectionCreated, ConnectionCheckedIn, ConnectionClosed, Replied, Reply, Pooled, Establishing, Warmed, Unheard, told}
-use Rattle.definition.specs.Steps.{Out, Act, _>>_, nothing, emit, leaveLent, leavePending, shelve, lendOut, createPendingConnection, closePerished, tellAll, mode, abandon, checkIn, clear, repin, shut, succeededForPool, removePerished, establish, lend, takeAvailable, checkOut, serveFront, service, serviced, own, event}
+use Rattle.definition.specs.Steps.{Out, Act, _>>_, nothing, emit, leaveLent, leavePending, shelve, lendOut, createPendingConnection, closePerished, tellAll, enter, abandon, checkIn, clear, repin, shut, succeededForPool, removePerished, establish, lend, takeAvailable, checkOut, serveFront, service, serviced, handle, event}
 use Rattle.definition.specs.Refusals.{refusalNo, Test, _if_, tests}
 use Rattle.definition.specs.declared.Event.{Event}
 use Rattle.definition.specs.declared.Event.the-variants.{CheckOut, WarmPool, Abandon, CheckIn, Clear, MarkAsReady, Succeeded, SucceededForPool, Failed, Maintenance, FillPool, Pin, ReturnToPinner, TakeFromPinner, Close}
@@ -51,7 +51,7 @@ module _ (n letGo : ℕ) (p : Pool) where
 
   -- else to the back of the available list as it was, available since it was let go
   pub healthy-last : isClosed (p .state) ≡ false → stale p (find n (p .lent)) ≡ false
-      → checkIn n false false letGo p .pool .available ≡ p .available ∷ʳ turned CheckedIn letGo (find n (p .lent))
+      → checkIn n false false letGo p .pool .available ≡ p .available ∷ʳ withState CheckedIn letGo (find n (p .lent))
   unfolding checkIn leaveLent shelve if_then_else_ _>>_
   healthy-last h s = rw (h, s)
 
@@ -63,7 +63,7 @@ module _ (n letGo : ℕ) (p : Pool) where
 
 -- a success in background: to the back as it was, with the opened time, even if stale
 pub opened-last : (n opened : ℕ) (p : Pool) → isClosed (p .state) ≡ false
-    → succeededForPool n opened p .pool .available ≡ p .available ∷ʳ turned CheckedIn opened (find n (p .pending))
+    → succeededForPool n opened p .pool .available ≡ p .available ∷ʳ withState CheckedIn opened (find n (p .pending))
 unfolding succeededForPool leavePending shelve if_then_else_ _>>_
 opened-last n opened p h = rw h
 
@@ -72,17 +72,17 @@ opened-last n opened p h = rw h
 -- a clear, whatever the state, pauses the pool with the new cause, at the next generation; a close closes it
 pub clear-pauses : (timeout : Bool) (cause : ℕ) (p : Pool)
     → (clear timeout cause p .pool .state ≡ Paused cause) × (clear timeout cause p .pool .generation ≡ p .generation + 1)
-unfolding clear mode _>>_
+unfolding clear enter _>>_
 clear-pauses timeout cause p = (refl, refl)
 
 pub shut-closes : (p : Pool) → shut p .pool .state ≡ Closed
-unfolding shut mode _>>_
+unfolding shut enter _>>_
 shut-closes p = refl
 
 -- no service stage follows an abandon, a pin, a return or a take: they say nothing
 pub silent : (n : ℕ) (p : Pool)
     → (event (Abandon n) p .records ≡ []) × (event (Pin n) p .records ≡ []) × (event (ReturnToPinner n) p .records ≡ []) × (event (TakeFromPinner n) p .records ≡ [])
-unfolding event own abandon repin if_then_else_ _>>_
+unfolding event handle abandon repin if_then_else_ _>>_
 silent n p = (refl, refl, refl, refl)
 
 -- ── Pruning, and taking from the back ──────────────────────────────────────────────────────────────────────────────────
@@ -134,7 +134,7 @@ prunes p = prunes-from (p .available) p refl
 -- of those that are left, the first is the one that is found, in its new state
 abbrev pub found : ConnectionState → ℕ → List Conn → List Conn
 found s t [] = []
-found s t (c ∷ cs) = turned s t c ∷ []
+found s t (c ∷ cs) = withState s t c ∷ []
 
 abbrev pub others : List Conn → List Conn
 others [] = []
@@ -286,10 +286,10 @@ pub service-once : (p : Pool) → length (answered (service p .records)) ≤ 1
 unfolding service
 service-once p = if-both (λ (a : Act Pool). length (answered (a p .records)) ≤ 1) (λ _. serveFront-answers (p .waiting) p refl .1) (λ _. omega arith)
 
-pub event-once : (e : Event) (p : Pool) → length (answered (event e p .records)) ≤ length (answered (own e p .records)) + 1
+pub event-once : (e : Event) (p : Pool) → length (answered (event e p .records)) ≤ length (answered (handle e p .records)) + 1
 unfolding event _>>_
 event-once e p =
-    let q = own e p .pool in
+    let q = handle e p .pool in
     let one : length (answered ((if serviced e then service else nothing) q .records)) ≤ 1 =
     if-both (λ (a : Act Pool). length (answered (a q .records)) ≤ 1) (λ _. service-once q) (λ _. omega arith) in
     rw (answered-append, length-append) (omega arith)

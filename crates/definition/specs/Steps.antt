@@ -4,7 +4,7 @@ use mathlib.Core.List.{List, [], _∷_, _++_, map, reverse}
 use Prim.Native.Nat.{ℕ, zero, suc, _+_, _-_, min}
 use lib.ListN.{length}
 use Rattle.definition.specs.Words.{if_then_else_, _<?_, _≤?_, _=?_, _∷ʳ_, some?}
-use Rattle.definition.specs.Pool.{Pool, Conn, Waiter, isReady, isClosed, total, stale, perished, find, without, turned, turn, withMode, withNextId, withLastRequest, withAvailable, withLent, withPending, withWaiting}
+use Rattle.definition.specs.Pool.{Pool, Conn, Waiter, isReady, isClosed, total, stale, perished, find, without, withState, setState, withStatus, withNextId, withLastRequest, withAvailable, withLent, withPending, withWaiting}
 use Rattle.definition.specs.Records.{Record, ConnectionCreated, ConnectionReady, ConnectionCheckedIn, ConnectionClosed, PoolReady, PoolCleared, PoolShut, Interrupt, Replied, Reply, Pooled, Establishing, Warmed, Cleared, Gone, told}
 use Rattle.definition.specs.Events.{partsOf}
 use Rattle.definition.specs.Types.{Event, CheckOut, WarmPool, Abandon, CheckIn, Clear, MarkAsReady, Succeeded, SucceededForPool, Failed, Maintenance, FillPool, Pin, ReturnToPinner, TakeFromPinner, Close, PoolState, New, Paused, Ready, Closed, InUse, Returned, Purpose, Request, Background, ConnectionState, CheckedIn, CheckedOut, Pinned, Pending, ClosedReason, Idle, Stale, Error, Dropped, PoolClosed}
@@ -49,11 +49,11 @@ close reason n = emit (ConnectionClosed reason n)
 
 -- to the back of the available list, available since the time given
 unfoldable pub shelve : Conn → ℕ → Act Pool
-shelve c t p = become (withAvailable p (p .available ∷ʳ turned CheckedIn t c)) p
+shelve c t p = become (withAvailable p (p .available ∷ʳ withState CheckedIn t c)) p
 
 -- lent, now
 unfoldable pub lendOut : Conn → Act Pool
-lendOut c p = become (withLent p (p .lent ∷ʳ turned CheckedOut (p .clock) c)) p
+lendOut c p = become (withLent p (p .lent ∷ʳ withState CheckedOut (p .clock) c)) p
 
 -- creation takes the next id and the current generation
 unfoldable pub createPendingConnection : Purpose → Act Pool
@@ -75,8 +75,8 @@ closePerished c p = close (if stale p c then Stale else Idle) (c .id) p
 unfoldable pub tellAll : Reply → Act Pool
 tellAll r p = (emitAll (map (told r) (p .waiting)) >> become (withWaiting p [])) p
 
-unfoldable pub mode : PoolState → ℕ → Act Pool
-mode s generation p = become (withMode p s generation) p
+unfoldable pub enter : PoolState → ℕ → Act Pool
+enter s generation p = become (withStatus p s generation) p
 
 -- ── The steps ──────────────────────────────────────────────────────────────────────────────────────────────────────────
 
@@ -117,12 +117,12 @@ clear timeout cause p =
     (do
       if timeout then emit (Interrupt (length (p .lent))) else nothing
       if isReady (p .state) then emit (PoolCleared timeout cause generation) >> tellAll (Cleared cause) else nothing
-      mode (Paused cause) generation
+      enter (Paused cause) generation
     ) p
 
 -- Ready: record 5 if it wasn't Ready, else nothing.
 unfoldable pub markAsReady : Act Pool
-markAsReady p = (if isReady (p .state) then nothing else (emit PoolReady >> mode Ready (p .generation))) p
+markAsReady p = (if isReady (p .state) then nothing else (emit PoolReady >> enter Ready (p .generation))) p
 
 -- 7: record 2, pending becomes lent.
 unfoldable pub succeeded : ℕ → Act Pool
@@ -160,7 +160,7 @@ maintenance p = (removePerished (p .available) >> ensureMinConnections) p
 
 -- Pin, return, take change only that connection.
 unfoldable pub repin : ConnectionState → ℕ → Act Pool
-repin s n p = become (withLent p (turn s (p .clock) n (p .lent))) p
+repin s n p = become (withLent p (setState s (p .clock) n (p .lent))) p
 
 -- Close: available ones front to back closed with 5, waiters front to back get 20, abandoned ones 21, then record 7.
 unfoldable pub shut : Act Pool
@@ -170,26 +170,26 @@ shut p =
       emitAll (map (λ c. ConnectionClosed PoolClosed (c .id)) (p .available))
       tellAll Gone
       emit PoolShut
-      mode Closed (p .generation)
+      enter Closed (p .generation)
     ) p
 
 -- what the event itself does; the clock is the event's. Fill does nothing of its own.
-unfoldable pub own : Event → Act Pool
-own (CheckOut n) = request n false
-own (WarmPool n) = request n true
-own (Abandon n) = abandon n
-own (CheckIn n errored executing letGo) = checkIn n errored executing letGo
-own (Clear timeout cause) = clear timeout cause
-own MarkAsReady = markAsReady
-own (Succeeded n) = succeeded n
-own (SucceededForPool n opened) = succeededForPool n opened
-own (Failed n) = failed n
-own Maintenance = maintenance
-own FillPool = nothing
-own (Pin n) = repin (Pinned InUse) n
-own (ReturnToPinner n) = repin (Pinned Returned) n
-own (TakeFromPinner n) = repin (Pinned InUse) n
-own Close = shut
+unfoldable pub handle : Event → Act Pool
+handle (CheckOut n) = request n false
+handle (WarmPool n) = request n true
+handle (Abandon n) = abandon n
+handle (CheckIn n errored executing letGo) = checkIn n errored executing letGo
+handle (Clear timeout cause) = clear timeout cause
+handle MarkAsReady = markAsReady
+handle (Succeeded n) = succeeded n
+handle (SucceededForPool n opened) = succeededForPool n opened
+handle (Failed n) = failed n
+handle Maintenance = maintenance
+handle FillPool = nothing
+handle (Pin n) = repin (Pinned InUse) n
+handle (ReturnToPinner n) = repin (Pinned Returned) n
+handle (TakeFromPinner n) = repin (Pinned InUse) n
+handle Close = shut
 
 -- ── The service stage ──────────────────────────────────────────────────────────────────────────────────────────────────
 
@@ -246,4 +246,4 @@ abbrev pub serviced : Event → Bool
 serviced e = 1 to 2 holds kindNo e || 4 to 11 holds kindNo e
 
 unfoldable pub event : Event → Act Pool
-event e = own e >> (if serviced e then service else nothing)
+event e = handle e >> (if serviced e then service else nothing)

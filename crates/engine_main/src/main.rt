@@ -5,11 +5,11 @@ ghost use Rattle.refinement.specs.Stands.{Formed};
 use definition::Options;
 use libc::STDIN_FILENO;
 use libc::STDOUT_FILENO;
-use slots::Cells;
+use slots::Numbers;
 use slots::Head;
 use slots::QUEUE;
 use slots::SLOTS;
-use slots::Seats;
+use slots::States;
 use slots::Times;
 use slots::Waiters;
 use tally::Tally;
@@ -23,23 +23,23 @@ struct Ran {
 // Frame after frame. The pool's structure is not tested: it is formed, and stays so.
 fn run(
     head: Head,
-    cells: &mut Cells,
+    numbers: &mut Numbers,
     times: &mut Times,
-    seats: &mut Seats,
+    states: &mut States,
     waiters: &mut Waiters,
     frames: &[u8],
     tally: Tally,
     out: &mut [u8],
 ) -> Ran
-    requires { ⌜ Formed (given head cells times seats waiters) ⌝ }
-    ensures { λ r. ⌜ Formed (after (r .head) cells times seats waiters) ⌝ }
+    requires { ⌜ Formed (given head numbers times states waiters) ⌝ }
+    ensures { λ r. ⌜ Formed (after (r .head) numbers times states waiters) ⌝ }
 {
     let mut h = head;
     let mut t = tally;
     let mut at: usize = 0;
     while 24 <= frames.len() - at {
         let f = text::frame_of(&frames[at..at + 24]);
-        let a = event::call(h, cells, times, seats, waiters, out, f);
+        let a = event::call(h, numbers, times, states, waiters, out, f);
         h = a.head;
         let o = a.outcome;
         t = tally::counted(t, o);
@@ -51,14 +51,14 @@ fn run(
 // To the end of the input. A proved loop has to end, so the turns are counted down from a number that no run uses up.
 fn all(
     head: Head,
-    cells: &mut Cells,
+    numbers: &mut Numbers,
     times: &mut Times,
-    seats: &mut Seats,
+    states: &mut States,
     waiters: &mut Waiters,
     buf: &mut [u8],
     out: &mut [u8],
 ) -> Tally
-    requires { ⌜ Formed (given head cells times seats waiters) ⌝ }
+    requires { ⌜ Formed (given head numbers times states waiters) ⌝ }
 {
     let mut h = head;
     let mut t = tally::none();
@@ -68,7 +68,7 @@ fn all(
         if n == 0 {
             return t;
         }
-        let r = run(h, cells, times, seats, waiters, &buf[..n], t, out);
+        let r = run(h, numbers, times, states, waiters, &buf[..n], t, out);
         h = r.head;
         t = r.tally;
         turns -= 1;
@@ -79,18 +79,18 @@ fn all(
 fn play(options: Options) {
     let o = pool::with_defaults(options);
     if pool::in_range(o) {
-        let mut cells: Cells = [0; 2 * SLOTS];
+        let mut numbers: Numbers = [0; 2 * SLOTS];
         let mut times: Times = [0; SLOTS];
-        let mut seats: Seats = [0; 2 * SLOTS];
+        let mut states: States = [0; 2 * SLOTS];
         let mut waiters: Waiters = [0; QUEUE];
         let mut buf = [0u8; 61440];
         let mut out = [0u8; 8192];
         let head = pool::fresh_head(o);
         let t = all(
             head,
-            &mut cells,
+            &mut numbers,
             &mut times,
-            &mut seats,
+            &mut states,
             &mut waiters,
             &mut buf,
             &mut out,

@@ -11,7 +11,7 @@ use Rattle.slots.specs.Call.{World, call}
 use Rattle.slots.specs.declared.Outcome.{Outcome}
 use Rattle.slots.specs.declared.Outcome.the-variants.{Refused, Accepted}
 use Rattle.rules.specs.Tests.{keepsRules}
-use Rattle.pool.specs.View.{viewOf, cellsOf, timesOf, seatsOf, poolFrom}
+use Rattle.pool.specs.View.{viewOf, numbersOf, timesOf, statesOf, poolFrom}
 use Rattle.pool.specs.declared.Pool.{Pool}
 
 -- what a call leaves: the pool, the output, and the answer
@@ -34,7 +34,7 @@ recordsIn (Accepted n) = n
 
 -- the structure test
 abbrev pub keeps : Pool → Bool
-keeps p = keepsRules (p .head) (cellsOf (p .slots)) (timesOf (p .slots)) (seatsOf (p .slots) (p .available)) (p .waiters)
+keeps p = keepsRules (p .head) (numbersOf (p .slots)) (timesOf (p .slots)) (statesOf (p .slots) (p .available)) (p .waiters)
 
 -- a call on slots, as one on a pool value
 abbrev pub back : World → Entered

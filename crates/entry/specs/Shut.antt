@@ -9,7 +9,7 @@ use Rattle.definition.specs.Words.{if_then_else_}
 use Rattle.definition.specs.Pool as D
 use Rattle.definition.specs.Pool.{fresh, inRange}
 use Rattle.definition.specs.Records.{told}
-use Rattle.definition.specs.Steps.{Out, _>>_, leaveLent, leavePending, shelve, lendOut, createPendingConnection, createMany, closePerished, tellAll, mode, queue, request, markAsReady, own, canService, establish, lend, takeAvailable, checkOut, serveFront, service, event}
+use Rattle.definition.specs.Steps.{Out, _>>_, leaveLent, leavePending, shelve, lendOut, createPendingConnection, createMany, closePerished, tellAll, enter, queue, request, markAsReady, handle, canService, establish, lend, takeAvailable, checkOut, serveFront, service, event}
 use Rattle.definition.specs.Refusals as R
 use Rattle.definition.specs.Refusals.{first, tests, outcome, lastNextId}
 use Rattle.definition.specs.Bytes.{serialOf, at4, at8, frameOfFields, frameOf, recordBytes}
@@ -72,36 +72,36 @@ unfolding R.step tests first if_then_else_
 step1 = refl
 
 step2 : R.step (o1 .pool) (Good (CheckOut 1) 1) 8192 ≡ R.Accepted o2
-unfolding R.step tests first outcome event own request queue markAsReady service canService serveFront checkOut takeAvailable lend establish createPendingConnection told leaveLent leavePending shelve lendOut mode _>>_ if_then_else_
+unfolding R.step tests first outcome event handle request queue markAsReady service canService serveFront checkOut takeAvailable lend establish createPendingConnection told leaveLent leavePending shelve lendOut enter _>>_ if_then_else_
 step2 = refl
 
 -- one record, of kind 5; then two, and connection 1 is taken
 one-record : length (o1 .records) ≡ 1
-unfolding outcome event own request queue markAsReady service canService serveFront checkOut takeAvailable lend establish createPendingConnection told leaveLent leavePending shelve lendOut mode _>>_ if_then_else_
+unfolding outcome event handle request queue markAsReady service canService serveFront checkOut takeAvailable lend establish createPendingConnection told leaveLent leavePending shelve lendOut enter _>>_ if_then_else_
 one-record = refl
 
 kind-5 : (l : List ℕ) → getD (lay 0 0 (o1 .records) l) 0 0 ≡ 5
-unfolding lay laid recordBytes outcome event own request queue markAsReady service canService serveFront checkOut takeAvailable lend establish createPendingConnection told leaveLent leavePending shelve lendOut mode _>>_ if_then_else_
+unfolding lay laid recordBytes outcome event handle request queue markAsReady service canService serveFront checkOut takeAvailable lend establish createPendingConnection told leaveLent leavePending shelve lendOut enter _>>_ if_then_else_
 kind-5 l = refl
 
 now-ready : o1 .pool .state ≡ Ready
-unfolding outcome event own request queue markAsReady service canService serveFront checkOut takeAvailable lend establish createPendingConnection told leaveLent leavePending shelve lendOut mode _>>_ if_then_else_
+unfolding outcome event handle request queue markAsReady service canService serveFront checkOut takeAvailable lend establish createPendingConnection told leaveLent leavePending shelve lendOut enter _>>_ if_then_else_
 now-ready = refl
 
 one-written : o1 .pool .written ≡ 1
-unfolding outcome event own request queue markAsReady service canService serveFront checkOut takeAvailable lend establish createPendingConnection told leaveLent leavePending shelve lendOut mode _>>_ if_then_else_
+unfolding outcome event handle request queue markAsReady service canService serveFront checkOut takeAvailable lend establish createPendingConnection told leaveLent leavePending shelve lendOut enter _>>_ if_then_else_
 one-written = refl
 
 first-id : o1 .pool .nextId ≡ 1
-unfolding outcome event own request queue markAsReady service canService serveFront checkOut takeAvailable lend establish createPendingConnection told leaveLent leavePending shelve lendOut mode _>>_ if_then_else_
+unfolding outcome event handle request queue markAsReady service canService serveFront checkOut takeAvailable lend establish createPendingConnection told leaveLent leavePending shelve lendOut enter _>>_ if_then_else_
 first-id = refl
 
 two-records : length (o2 .records) ≡ 2
-unfolding outcome event own request queue markAsReady service canService serveFront checkOut takeAvailable lend establish createPendingConnection told leaveLent leavePending shelve lendOut mode _>>_ if_then_else_
+unfolding outcome event handle request queue markAsReady service canService serveFront checkOut takeAvailable lend establish createPendingConnection told leaveLent leavePending shelve lendOut enter _>>_ if_then_else_
 two-records = refl
 
 second-id : o2 .pool .nextId ≡ 2
-unfolding outcome event own request queue markAsReady service canService serveFront checkOut takeAvailable lend establish createPendingConnection told leaveLent leavePending shelve lendOut mode _>>_ if_then_else_
+unfolding outcome event handle request queue markAsReady service canService serveFront checkOut takeAvailable lend establish createPendingConnection told leaveLent leavePending shelve lendOut enter _>>_ if_then_else_
 second-id = refl
 
 abbrev start : Pool

@@ -5,7 +5,7 @@ use mathlib.Core.List.{List}
 use Prim.Native.Nat.{ℕ, _≤_, _<_}
 use lib.ListN.{length, length-map}
 use borrow.Author.Tests.{lt-ltb, le-ltb}
-use Rattle.definition.specs.Pool.{queueLength, most}
+use Rattle.definition.specs.Pool.{queueLength, slotCount}
 use Rattle.definition.specs.Words.{if_then_else_}
 use Rattle.definition.specs.Refusals.{enoughRoom}
 use Rattle.definition.specs.Bytes.{frameOf}
@@ -17,7 +17,7 @@ use Rattle.slots.specs.declared.Head.{Head}
 use Rattle.slots.specs.declared.Outcome.{Outcome}
 use Rattle.slots.specs.declared.Outcome.the-variants.{Refused}
 use Rattle.rules.specs.Exact.{Exactly, exactly}
-use Rattle.pool.specs.View.{idOf, seen, viewOf, cellsOf, timesOf, seatsOf, poolFrom}
+use Rattle.pool.specs.View.{idOf, seen, viewOf, numbersOf, timesOf, statesOf, poolFrom}
 use Rattle.entry.specs.Entry.{entered, keeps, back, entry}
 use Rattle.pool.specs.Laws.{view-columns, Apart, Again, slotsOf}
 use Rattle.pool.specs.declared.Slot.{Slot}
@@ -27,8 +27,8 @@ use Rattle.pool.specs.declared.Table.{Table}
 
 -- what the types of the code say of every pool value
 pub record Typed (p : Pool) : Type 0 where
-  pub slots : length (p .slots) ≡ most
-  pub available : length (p .available) ≡ most
+  pub slots : length (p .slots) ≡ slotCount
+  pub available : length (p .available) ≡ slotCount
   pub waiters : length (p .waiters) ≡ queueLength
   pub serial : p .head .serial < 4294967296
 
@@ -42,7 +42,7 @@ pub keeps-exact : (p : Pool) → Typed p → Exactly (keeps p) (viewOf p)
 keeps-exact p t =
     let e = view-columns p (t .slots) in
     subst (λ (v : SlotPool). Exactly (keeps p) v) (sym e)
-    (exactly (p .head) (cellsOf (p .slots)) (timesOf (p .slots)) (seatsOf (p .slots) (p .available)) (p .waiters) (keeps p) (subst Whole e (view-whole p t)) (t .serial) refl)
+    (exactly (p .head) (numbersOf (p .slots)) (timesOf (p .slots)) (statesOf (p .slots) (p .available)) (p .waiters) (keeps p) (subst Whole e (view-whole p t)) (t .serial) refl)
 
 -- and any other exact one says the same
 pub same-test : (a b : Bool) (v : SlotPool) → Exactly a v → Exactly b v → a ≡ b
@@ -70,17 +70,17 @@ module _ (p : Pool) (b l : List ℕ) where
 
 module _ (p : Pool) (t : Typed p) (r : Parts) (a : Apart (p .slots) (p .available) r) where
   -- the columns that were taken are the view's
-  pub apart-view : poolOf (p .head) (r .cells) (r .times) (r .seats) (p .waiters) ≡ viewOf p
+  pub apart-view : poolOf (p .head) (r .numbers) (r .times) (r .states) (p .waiters) ≡ viewOf p
   apart-view =
-      ap (λ (x : List ℕ). poolOf (p .head) x (r .times) (r .seats) (p .waiters)) (a .cells)
-      ∙ ap (λ (x : List ℕ). poolOf (p .head) (cellsOf (p .slots)) x (r .seats) (p .waiters)) (a .times)
-      ∙ ap (λ (x : List ℕ). poolOf (p .head) (cellsOf (p .slots)) (timesOf (p .slots)) x (p .waiters)) (a .seats)
+      ap (λ (x : List ℕ). poolOf (p .head) x (r .times) (r .states) (p .waiters)) (a .numbers)
+      ∙ ap (λ (x : List ℕ). poolOf (p .head) (numbersOf (p .slots)) x (r .states) (p .waiters)) (a .times)
+      ∙ ap (λ (x : List ℕ). poolOf (p .head) (numbersOf (p .slots)) (timesOf (p .slots)) x (p .waiters)) (a .states)
       ∙ sym (view-columns p (t .slots))
 
-  pub apart-whole : Whole (poolOf (p .head) (r .cells) (r .times) (r .seats) (p .waiters))
+  pub apart-whole : Whole (poolOf (p .head) (r .numbers) (r .times) (r .states) (p .waiters))
   apart-whole = subst Whole (sym apart-view) (view-whole p t)
 
-  module _ (k : Bool) (x : Exactly k (poolOf (p .head) (r .cells) (r .times) (r .seats) (p .waiters))) where
+  module _ (k : Bool) (x : Exactly k (poolOf (p .head) (r .numbers) (r .times) (r .states) (p .waiters))) where
     pub apart-test : keeps p ≡ k
     apart-test = same-test (keeps p) k (viewOf p) (keeps-exact p t) (subst (λ (v : SlotPool). Exactly k v) apart-view x)
 
@@ -89,7 +89,7 @@ module _ (p : Pool) (t : Typed p) (r : Parts) (a : Apart (p .slots) (p .availabl
 
     pub step-done : (b l : List ℕ) → enoughRoom ≤ length l → k ≡ true → (f : Frame) → f ≡ frameOf b
         → (h : Head) (cs ts ss ws l' : List ℕ) (o : Outcome) (g : Table)
-        → world (poolOf h cs ts ss ws) l' o ≡ call (poolOf (p .head) (r .cells) (r .times) (r .seats) (p .waiters)) l f → Again cs ts ss g
+        → world (poolOf h cs ts ss ws) l' o ≡ call (poolOf (p .head) (r .numbers) (r .times) (r .states) (p .waiters)) l f → Again cs ts ss g
         → entered (record { head = h; slots = g .slots; available = g .available; waiters = ws }) l' o ≡ entry p b l
     unfolding poolFrom
     step-done b l low e f ef h cs ts ss ws l' o g w n =

@@ -25,10 +25,10 @@ pub fn step(pool: Pool, frame: &[u8], out: &mut [u8]) -> Stepped
     let available = pool.available;
     let mut waiters = pool.waiters;
     let c = pool::columns(slots, available);
-    let mut cells = c.cells;
+    let mut numbers = c.numbers;
     let mut times = c.times;
-    let mut seats = c.seats;
-    if !rules::keeps_rules(head, &cells, &times, &seats, &waiters) {
+    let mut states = c.states;
+    if !rules::keeps_rules(head, &numbers, &times, &states, &waiters) {
         return Stepped {
             pool: pool,
             outcome: Outcome::Refused(Refusal::Malformed),
@@ -37,16 +37,16 @@ pub fn step(pool: Pool, frame: &[u8], out: &mut [u8]) -> Stepped
     let f = text::frame_of(frame);
     let a = event::call(
         head,
-        &mut cells,
+        &mut numbers,
         &mut times,
-        &mut seats,
+        &mut states,
         &mut waiters,
         out,
         f,
     );
     let h = a.head;
     let o = a.outcome;
-    let t = pool::rows(cells, times, seats);
+    let t = pool::rows(numbers, times, states);
     let s = t.slots;
     let v = t.available;
     let next = Pool {

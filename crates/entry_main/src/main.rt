@@ -7,7 +7,7 @@ use entry::Stepped;
 use libc::STDOUT_FILENO;
 use pool::Pool;
 use pool::Slot;
-use slots::Mode;
+use slots::Status;
 use slots::Outcome;
 
 // A local pool, lent to `entry::event`.
@@ -387,13 +387,13 @@ fn serial_from(p: Pool, serial: u32) -> Pool {
 
 fn generation_from(p: Pool, generation: u32) -> Pool {
     let mut h = p.head;
-    let k = h.mode;
+    let k = h.status;
     let s = k.state;
-    let m = Mode {
+    let m = Status {
         state: s,
         generation: generation,
     };
-    h.mode = m;
+    h.status = m;
     let mut q = p;
     q.head = h;
     q

@@ -20,9 +20,9 @@ use Rattle.definition.specs.declared.Refusal.the-variants.{OutputShort, Malform
 use Rattle.slots.specs.View.{SlotPool, Whole}
 use Rattle.slots.specs.Done.{Room, Done}
 use Rattle.slots.specs.Needs.{CanServe}
-use Rattle.slots.specs.Slots.{own, event, service, withClock, withSerial}
+use Rattle.slots.specs.Slots.{handle, event, service, withClock, withSerial}
 use Rattle.slots.specs.Call.{target, verdict, World, world, accepted, judged, step, call, numbersSpent}
-use Rattle.slots.specs.declared.Verdict.the-variants.{Refuse, At}
+use Rattle.slots.specs.declared.Verdict.the-variants.{Refuse, Accept}
 use Rattle.slots.specs.declared.Outcome.the-variants.{Refused, Accepted}
 use Rattle.refinement.specs.Stands.{Stands, Formed}
 use Rattle.refinement.specs.Tests.{Passed}
@@ -47,13 +47,13 @@ module _ (p : SlotPool) (e : Event) (now : ℕ) (f : Formed p) (h : Passed p e n
     generation = λ k g. absurd (true≢false (rw (k, g) at (or-right (not (isClosed (p .state)) && not (kindNo e =? 15) && lastNextId <? p .nextId) _ (h .numbers))));
   }
 
-  pub serves : (q : SlotPool) (n : ℕ) (l : List ℕ) → q ≡ own e i (withClock p now) .pool → n ≡ 0 + length (own e i (withClock p now) .records) → enoughRoom ≤ length l
+  pub serves : (q : SlotPool) (n : ℕ) (l : List ℕ) → q ≡ handle e i (withClock p now) .pool → n ≡ 0 + length (handle e i (withClock p now) .records) → enoughRoom ≤ length l
       → Whole q × CanServe q × Room (q .availables + 2) n l
   serves q n l eq en room =
-      let w = subst (λ (x : ℕ). Whole (own e x (withClock p now) .pool) × CanServe (own e x (withClock p now) .pool)) (sym at) (can-serve-after p e now f h) in
+      let w = subst (λ (x : ℕ). Whole (handle e x (withClock p now) .pool) × CanServe (handle e x (withClock p now) .pool)) (sym at) (can-serve-after p e now f h) in
       let a = asks in
       let r = room-after e i (withClock p now) _ l (a .stands) (a .fit) room in
-      let v : q .availables ≡ own e i (withClock p now) .pool .availables = ap (λ (x : SlotPool). x .availables) eq in
+      let v : q .availables ≡ handle e i (withClock p now) .pool .availables = ap (λ (x : SlotPool). x .availables) eq in
       (rw eq (w .0), rw eq (w .1), (omega (arith, en, v, r .0), omega (arith, en, v, r .1)))
 
 -- the service stage, where the event has one
@@ -72,7 +72,7 @@ module _ (p : SlotPool) (l : List ℕ) (e : Event) (now : ℕ) where
   unfolding step
   step-refused r h = ap (judged p l e now) h
 
-  pub step-taken : (i : ℕ) → verdict p e now ≡ At i → step p l e now ≡ accepted p l (event e i (withClock p now))
+  pub step-taken : (i : ℕ) → verdict p e now ≡ Accept i → step p l e now ≡ accepted p l (event e i (withClock p now))
   unfolding step
   step-taken i h = ap (judged p l e now) h
 

@@ -7,19 +7,19 @@ ghost use Rattle.definition.specs.Refusals.{enoughRoom};
 ghost use Rattle.definition.specs.Steps.{_to_holds_};
 ghost use Rattle.slots.specs.View.{given, before, after};
 ghost use Rattle.slots.specs.Done.{Done};
-ghost use Rattle.slots.specs.Slots.{own, event, withClock};
+ghost use Rattle.slots.specs.Slots.{handle, event, withClock};
 ghost use Rattle.slots.specs.Call.{target, world, step, call};
 ghost use Rattle.refinement.specs.Stands.{Formed};
 ghost use Rattle.refinement.specs.Tests.{Passed};
 ghost use Rattle.event.specs.Asks.{Asks};
-use acts::Core;
+use acts::Progress;
 use definition::Event;
 use definition::Frame;
 use definition::Refusal;
-use slots::Cells;
+use slots::Numbers;
 use slots::Head;
 use slots::Outcome;
-use slots::Seats;
+use slots::States;
 use slots::Times;
 use slots::Verdict;
 use slots::Waiters;
@@ -46,44 +46,44 @@ fn is_serviced(kind: u8) -> bool
 }
 
 // The event's own step, on the slot or the waiter that it names; the clock is the event's.
-pub fn own(
+pub fn handle(
     head: Head,
-    cells: &mut Cells,
+    numbers: &mut Numbers,
     times: &mut Times,
-    seats: &mut Seats,
+    states: &mut States,
     waiters: &mut Waiters,
     out: &mut [u8],
     e: Event,
     i: usize,
-) -> Core
-    requires { ⌜ Asks e i (given head cells times seats waiters) × (enoughRoom ≤ length (now out)) ⌝ }
-    ensures { λ r. ⌜ Done (own e i (before head cells times seats waiters)) (head .serial) 0 (now (out .entry)) (after (r .head) cells times seats waiters) (r .count) (now (out .exit)) ⌝ }
+) -> Progress
+    requires { ⌜ Asks e i (given head numbers times states waiters) × (enoughRoom ≤ length (now out)) ⌝ }
+    ensures { λ r. ⌜ Done (handle e i (before head numbers times states waiters)) (head .serial) 0 (now (out .entry)) (after (r .head) numbers times states waiters) (r .count) (now (out .exit)) ⌝ }
 {
     match e {
         Event::CheckOut(id) => steps::request(
             head,
-            cells,
+            numbers,
             times,
-            seats,
+            states,
             waiters,
             out,
             0,
             id,
             false,
         ),
-        Event::WarmPool(id) => steps::request(head, cells, times, seats, waiters, out, 0, id, true),
+        Event::WarmPool(id) => steps::request(head, numbers, times, states, waiters, out, 0, id, true),
         Event::Abandon(_) => {
-            steps::abandon(head, cells, times, seats, waiters, i);
-            Core {
+            steps::abandon(head, numbers, times, states, waiters, i);
+            Progress {
                 head: head,
                 count: 0,
             }
         }
         Event::CheckIn(_, errored, executing, let_go) => steps::check_in(
             head,
-            cells,
+            numbers,
             times,
-            seats,
+            states,
             waiters,
             out,
             0,
@@ -94,20 +94,20 @@ pub fn own(
         ),
         Event::Clear(timeout, cause) => upkeep::clear(
             head,
-            cells,
+            numbers,
             times,
-            seats,
+            states,
             waiters,
             out,
             timeout,
             cause,
         ),
-        Event::MarkAsReady => steps::mark_as_ready(head, cells, times, seats, waiters, out, 0),
+        Event::MarkAsReady => upkeep::mark_as_ready(head, numbers, times, states, waiters, out, 0),
         Event::Succeeded(_) => steps::handle_connection_succeeded(
             head,
-            cells,
+            numbers,
             times,
-            seats,
+            states,
             waiters,
             out,
             0,
@@ -115,9 +115,9 @@ pub fn own(
         ),
         Event::SucceededForPool(_, opened) => steps::handle_connection_succeeded_for_pool(
             head,
-            cells,
+            numbers,
             times,
-            seats,
+            states,
             waiters,
             out,
             0,
@@ -126,66 +126,66 @@ pub fn own(
         ),
         Event::Failed(_) => steps::handle_connection_failed(
             head,
-            cells,
+            numbers,
             times,
-            seats,
+            states,
             waiters,
             out,
             0,
             i,
         ),
-        Event::Maintenance => upkeep::perform_maintenance(head, cells, times, seats, waiters, out),
-        Event::FillPool => Core {
+        Event::Maintenance => upkeep::perform_maintenance(head, numbers, times, states, waiters, out),
+        Event::FillPool => Progress {
             head: head,
             count: 0,
         },
         Event::Pin(_) => {
-            acts::turn(head, cells, times, seats, waiters, i, 3);
-            Core {
+            acts::set_state(head, numbers, times, states, waiters, i, 3);
+            Progress {
                 head: head,
                 count: 0,
             }
         }
         Event::ReturnToPinner(_) => {
-            acts::turn(head, cells, times, seats, waiters, i, 4);
-            Core {
+            acts::set_state(head, numbers, times, states, waiters, i, 4);
+            Progress {
                 head: head,
                 count: 0,
             }
         }
         Event::TakeFromPinner(_) => {
-            acts::turn(head, cells, times, seats, waiters, i, 3);
-            Core {
+            acts::set_state(head, numbers, times, states, waiters, i, 3);
+            Progress {
                 head: head,
                 count: 0,
             }
         }
-        Event::Close => upkeep::shut(head, cells, times, seats, waiters, out),
+        Event::Close => upkeep::shut(head, numbers, times, states, waiters, out),
     }
 }
 
 // An event that no test refuses: its own step at its time, then, once, the service stage.
 pub fn event(
     head: Head,
-    cells: &mut Cells,
+    numbers: &mut Numbers,
     times: &mut Times,
-    seats: &mut Seats,
+    states: &mut States,
     waiters: &mut Waiters,
     out: &mut [u8],
     e: Event,
     time: u64,
     i: usize,
-) -> Core
-    requires { ⌜ Formed (given head cells times seats waiters) × Passed (given head cells times seats waiters) e time × (i ≡ target (given head cells times seats waiters) e) × (enoughRoom ≤ length (now out)) ⌝ }
-    ensures { λ r. ⌜ Done (event e i (withClock (before head cells times seats waiters) time)) (head .serial) 0 (now (out .entry)) (after (r .head) cells times seats waiters) (r .count) (now (out .exit)) ⌝ }
+) -> Progress
+    requires { ⌜ Formed (given head numbers times states waiters) × Passed (given head numbers times states waiters) e time × (i ≡ target (given head numbers times states waiters) e) × (enoughRoom ≤ length (now out)) ⌝ }
+    ensures { λ r. ⌜ Done (event e i (withClock (before head numbers times states waiters) time)) (head .serial) 0 (now (out .entry)) (after (r .head) numbers times states waiters) (r .count) (now (out .exit)) ⌝ }
 {
     let mut h = head;
     h.clock = time;
-    let c = own(h, cells, times, seats, waiters, out, e, i);
+    let c = handle(h, numbers, times, states, waiters, out, e, i);
     if is_serviced(verdict::kind_no(e)) {
         let g = c.head;
         let n = c.count;
-        return service::service(g, cells, times, seats, waiters, out, n);
+        return checkout::service(g, numbers, times, states, waiters, out, n);
     }
     c
 }
@@ -193,24 +193,24 @@ pub fn event(
 // Any event: refused, and then nothing is changed, or done.
 pub fn step(
     head: Head,
-    cells: &mut Cells,
+    numbers: &mut Numbers,
     times: &mut Times,
-    seats: &mut Seats,
+    states: &mut States,
     waiters: &mut Waiters,
     out: &mut [u8],
     e: Event,
     time: u64,
 ) -> Answer
-    requires { ⌜ Formed (given head cells times seats waiters) × (enoughRoom ≤ length (now out)) ⌝ }
-    ensures { λ r. ⌜ world (after (r .head) cells times seats waiters) (now (out .exit)) (r .outcome) ≡ step (before head cells times seats waiters) (now (out .entry)) e time ⌝ }
+    requires { ⌜ Formed (given head numbers times states waiters) × (enoughRoom ≤ length (now out)) ⌝ }
+    ensures { λ r. ⌜ world (after (r .head) numbers times states waiters) (now (out .exit)) (r .outcome) ≡ step (before head numbers times states waiters) (now (out .entry)) e time ⌝ }
 {
-    match verdict::verdict(head, cells, times, seats, waiters, e, time) {
+    match verdict::verdict(head, numbers, times, states, waiters, e, time) {
         Verdict::Refuse(r) => Answer {
             head: head,
             outcome: Outcome::Refused(r),
         },
-        Verdict::At(i) => {
-            let c = event(head, cells, times, seats, waiters, out, e, time, i);
+        Verdict::Accept(i) => {
+            let c = event(head, numbers, times, states, waiters, out, e, time, i);
             let mut h = c.head;
             let n = c.count;
             h.serial = std::num::wrapping_add_u32(head.serial, n);
@@ -225,15 +225,15 @@ pub fn step(
 // Any frame, any output.
 pub fn call(
     head: Head,
-    cells: &mut Cells,
+    numbers: &mut Numbers,
     times: &mut Times,
-    seats: &mut Seats,
+    states: &mut States,
     waiters: &mut Waiters,
     out: &mut [u8],
     frame: Frame,
 ) -> Answer
-    requires { ⌜ Formed (given head cells times seats waiters) ⌝ }
-    ensures { λ r. ⌜ world (after (r .head) cells times seats waiters) (now (out .exit)) (r .outcome) ≡ call (before head cells times seats waiters) (now (out .entry)) frame ⌝ }
+    requires { ⌜ Formed (given head numbers times states waiters) ⌝ }
+    ensures { λ r. ⌜ world (after (r .head) numbers times states waiters) (now (out .exit)) (r .outcome) ≡ call (before head numbers times states waiters) (now (out .entry)) frame ⌝ }
 {
     if out.len() < 8192 {
         return Answer {
@@ -242,7 +242,7 @@ pub fn call(
         };
     }
     match frame {
-        Frame::Good(e, time) => step(head, cells, times, seats, waiters, out, e, time),
+        Frame::Good(e, time) => step(head, numbers, times, states, waiters, out, e, time),
         Frame::Bad => Answer {
             head: head,
             outcome: Outcome::Refused(Refusal::Malformed),

@@ -6,7 +6,7 @@ use native.Mathlib.Numerals.{add-one}
 use native.Mathlib.Omega.{arith}
 use lib.ListN.{length, getD, set, take, drop, length-map, length-set, length-drop, take-append-drop}
 use lib.Seq.{take-suc, take-suc-set, take-at, drop-at, take-all, getD-take, getD-drop, length-take-le}
-use Rattle.definition.specs.Pool.{most, stateNo}
+use Rattle.definition.specs.Pool.{slotCount, stateNo}
 use Rattle.definition.specs.declared.ConnectionState.{ConnectionState}
 use Rattle.definition.specs.declared.ConnectionState.the-variants.{Vacant, CheckedIn, CheckedOut, Pinned, Pending}
 use Rattle.definition.specs.declared.PinnedState.the-variants.{InUse, Returned}
@@ -16,7 +16,7 @@ use Rattle.slots.specs.View.{SlotPool, poolOf}
 use Rattle.slots.specs.Columns.{front-kept, back-put}
 use Rattle.slots.specs.Parts.{row-at}
 use Rattle.slots.specs.Slots.{vacant}
-use Rattle.pool.specs.View.{idOf, generationOf, timeOf, codeOf, seen, viewOf, cellsOf, timesOf, seatsOf, stateOf, slotOf, together, poolFrom}
+use Rattle.pool.specs.View.{idOf, generationOf, timeOf, codeOf, seen, viewOf, numbersOf, timesOf, statesOf, stateOf, slotOf, together, poolFrom}
 use Rattle.pool.specs.declared.Slot.{Slot}
 use Rattle.pool.specs.declared.Pool.{Pool}
 use Rattle.pool.specs.declared.Parts.{Parts}
@@ -29,13 +29,13 @@ unfolding Of.rows
 rows-seen [] = refl
 rows-seen (s ∷ ss) = ap (λ (r : List Of.Slot). seen s ∷ r) (rows-seen ss)
 
-pub view-columns : (p : Pool) → length (p .slots) ≡ most
-    → viewOf p ≡ poolOf (p .head) (cellsOf (p .slots)) (timesOf (p .slots)) (seatsOf (p .slots) (p .available)) (p .waiters)
+pub view-columns : (p : Pool) → length (p .slots) ≡ slotCount
+    → viewOf p ≡ poolOf (p .head) (numbersOf (p .slots)) (timesOf (p .slots)) (statesOf (p .slots) (p .available)) (p .waiters)
 view-columns p e =
     let ss = p .slots in
-    let a : length (map idOf ss) ≡ most = length-map ss idOf ∙ e in
-    let b : length (map codeOf ss) ≡ most = length-map ss codeOf ∙ e in
-    rw (take-at (map idOf ss) (map generationOf ss) most a, drop-at (map idOf ss) (map generationOf ss) most a, take-at (map codeOf ss) (p .available) most b, drop-at (map codeOf ss) (p .available) most b, rows-seen ss)
+    let a : length (map idOf ss) ≡ slotCount = length-map ss idOf ∙ e in
+    let b : length (map codeOf ss) ≡ slotCount = length-map ss codeOf ∙ e in
+    rw (take-at (map idOf ss) (map generationOf ss) slotCount a, drop-at (map idOf ss) (map generationOf ss) slotCount a, take-at (map codeOf ss) (p .available) slotCount b, drop-at (map codeOf ss) (p .available) slotCount b, rows-seen ss)
 
 -- ── There and back ─────────────────────────────────────────────────────────────────────────────────────────────────────
 
@@ -93,34 +93,34 @@ view-back v l h = rw (ids-together (v .ids) (v .slots) l, seen-together (v .ids)
 -- ── Taken apart, one slot after the other ──────────────────────────────────────────────────────────────────────────────
 
 pub record Apart (slots : List Slot) (available : List ℕ) (r : Parts) : Type 0 where
-  pub cells : r .cells ≡ cellsOf slots
+  pub numbers : r .numbers ≡ numbersOf slots
   pub times : r .times ≡ timesOf slots
-  pub seats : r .seats ≡ seatsOf slots available
+  pub states : r .states ≡ statesOf slots available
 
 -- the first i are taken
-pub record Taking (ss : List Slot) (av : List ℕ) (i : ℕ) (cells times seats : List ℕ) : Type 0 where
-  pub some : i ≤ most
-  pub cellsLong : length cells ≡ 2 * most
-  pub timesLong : length times ≡ most
-  pub seatsLong : length seats ≡ 2 * most
-  pub ids : take i cells ≡ take i (map idOf ss)
-  pub generations : take i (drop most cells) ≡ take i (map generationOf ss)
+pub record Taking (ss : List Slot) (av : List ℕ) (i : ℕ) (numbers times states : List ℕ) : Type 0 where
+  pub some : i ≤ slotCount
+  pub numbersLong : length numbers ≡ 2 * slotCount
+  pub timesLong : length times ≡ slotCount
+  pub statesLong : length states ≡ 2 * slotCount
+  pub ids : take i numbers ≡ take i (map idOf ss)
+  pub generations : take i (drop slotCount numbers) ≡ take i (map generationOf ss)
   pub since : take i times ≡ take i (map timeOf ss)
-  pub states : take i seats ≡ take i (map codeOf ss)
-  pub order : take i (drop most seats) ≡ take i av
+  pub codes : take i states ≡ take i (map codeOf ss)
+  pub order : take i (drop slotCount states) ≡ take i av
 
 one-more : {A : Type 0} (xs c : List A) (d v : A) (i : ℕ) → i < length c → i < length xs → v ≡ getD xs i d → take i c ≡ take i xs → take (i + 1) (set c i v) ≡ take (i + 1) xs
 one-more xs c d v i h k e r = rw (add-one i, take-suc-set c i v h, take-suc xs i d k, e, r)
 
 -- two columns in one array
-module _ (xs ys c : List ℕ) (x y i : ℕ) (low : i < most) (long : length c ≡ 2 * most) where
-  front-more : i < length xs → x ≡ getD xs i 0 → take i c ≡ take i xs → take (i + 1) (set (set c i x) (most + i) y) ≡ take (i + 1) xs
-  front-more k e r = front-kept (i + 1) (set c i x) (most + i) y (omega arith) ∙ one-more xs c 0 x i (omega arith) k e r
+module _ (xs ys c : List ℕ) (x y i : ℕ) (low : i < slotCount) (long : length c ≡ 2 * slotCount) where
+  front-more : i < length xs → x ≡ getD xs i 0 → take i c ≡ take i xs → take (i + 1) (set (set c i x) (slotCount + i) y) ≡ take (i + 1) xs
+  front-more k e r = front-kept (i + 1) (set c i x) (slotCount + i) y (omega arith) ∙ one-more xs c 0 x i (omega arith) k e r
 
-  back-more : i < length ys → y ≡ getD ys i 0 → take i (drop most c) ≡ take i ys → take (i + 1) (drop most (set (set c i x) (most + i) y)) ≡ take (i + 1) ys
-  back-more k e r = ap (λ (l : List ℕ). take (i + 1) l) (back-put most c i x y low) ∙ one-more ys (drop most c) 0 y i (simp length-drop (omega arith)) k e r
+  back-more : i < length ys → y ≡ getD ys i 0 → take i (drop slotCount c) ≡ take i ys → take (i + 1) (drop slotCount (set (set c i x) (slotCount + i) y)) ≡ take (i + 1) ys
+  back-more k e r = ap (λ (l : List ℕ). take (i + 1) l) (back-put slotCount c i x y low) ∙ one-more ys (drop slotCount c) 0 y i (simp length-drop (omega arith)) k e r
 
-  both-long : length (set (set c i x) (most + i) y) ≡ 2 * most
+  both-long : length (set (set c i x) (slotCount + i) y) ≡ 2 * slotCount
   both-long = simp length-set long
 
 got : (f : Slot → ℕ) (ss : List Slot) (i : ℕ) (d : Slot) → i < length ss → getD (map f ss) i 0 ≡ f (getD ss i d)
@@ -128,10 +128,10 @@ got f [] i d h = absurd (omega arith)
 got f (s ∷ ss) zero d h = refl
 got f (s ∷ ss) (suc i) d h = got f ss i d (omega arith)
 
-pub taking-more : (ss : List Slot) (av : List ℕ) (i : ℕ) (cells times seats : List ℕ) (d s : Slot) (k v : ℕ) → length ss ≡ most → length av ≡ most → i < most
-    → Taking ss av i cells times seats → s ≡ getD ss i d → k ≡ stateNo (s .state) → v ≡ getD av i 0
-    → Taking ss av (i + 1) (set (set cells i (s .id)) (most + i) (s .generation)) (set times i (s .time)) (set (set seats i k) (most + i) v)
-taking-more ss av i cells times seats d s k v ls la low t e ek ev =
+pub taking-more : (ss : List Slot) (av : List ℕ) (i : ℕ) (numbers times states : List ℕ) (d s : Slot) (k v : ℕ) → length ss ≡ slotCount → length av ≡ slotCount → i < slotCount
+    → Taking ss av i numbers times states → s ≡ getD ss i d → k ≡ stateNo (s .state) → v ≡ getD av i 0
+    → Taking ss av (i + 1) (set (set numbers i (s .id)) (slotCount + i) (s .generation)) (set times i (s .time)) (set (set states i k) (slotCount + i) v)
+taking-more ss av i numbers times states d s k v ls la low t e ek ev =
     let h : i < length ss = omega arith in
     let a : i < length (map idOf ss) = simp length-map h in
     let b : i < length (map generationOf ss) = simp length-map h in
@@ -139,45 +139,45 @@ taking-more ss av i cells times seats d s k v ls la low t e ek ev =
     let f : i < length (map codeOf ss) = simp length-map h in
     record {
       some = omega arith;
-      cellsLong = both-long (map idOf ss) (map generationOf ss) cells (s .id) (s .generation) i low (t .cellsLong);
+      numbersLong = both-long (map idOf ss) (map generationOf ss) numbers (s .id) (s .generation) i low (t .numbersLong);
       timesLong = simp length-set (t .timesLong);
-      seatsLong = both-long (map codeOf ss) av seats k v i low (t .seatsLong);
-      ids = front-more (map idOf ss) (map generationOf ss) cells (s .id) (s .generation) i low (t .cellsLong) a (ap idOf e ∙ sym (got idOf ss i d h)) (t .ids);
-      generations = back-more (map idOf ss) (map generationOf ss) cells (s .id) (s .generation) i low (t .cellsLong) b (ap generationOf e ∙ sym (got generationOf ss i d h)) (t .generations);
+      statesLong = both-long (map codeOf ss) av states k v i low (t .statesLong);
+      ids = front-more (map idOf ss) (map generationOf ss) numbers (s .id) (s .generation) i low (t .numbersLong) a (ap idOf e ∙ sym (got idOf ss i d h)) (t .ids);
+      generations = back-more (map idOf ss) (map generationOf ss) numbers (s .id) (s .generation) i low (t .numbersLong) b (ap generationOf e ∙ sym (got generationOf ss i d h)) (t .generations);
       since = one-more (map timeOf ss) times 0 (s .time) i (omega (arith, t .timesLong)) g (ap timeOf e ∙ sym (got timeOf ss i d h)) (t .since);
-      states = front-more (map codeOf ss) av seats k v i low (t .seatsLong) f (ek ∙ ap codeOf e ∙ sym (got codeOf ss i d h)) (t .states);
-      order = back-more (map codeOf ss) av seats k v i low (t .seatsLong) (omega arith) ev (t .order);
+      codes = front-more (map codeOf ss) av states k v i low (t .statesLong) f (ek ∙ ap codeOf e ∙ sym (got codeOf ss i d h)) (t .codes);
+      order = back-more (map codeOf ss) av states k v i low (t .statesLong) (omega arith) ev (t .order);
     }
 
-two : (c xs ys : List ℕ) → length c ≡ (2 * most) → length xs ≡ most → length ys ≡ most → take most c ≡ take most xs → take most (drop most c) ≡ take most ys → c ≡ xs ++ ys
+two : (c xs ys : List ℕ) → length c ≡ (2 * slotCount) → length xs ≡ slotCount → length ys ≡ slotCount → take slotCount c ≡ take slotCount xs → take slotCount (drop slotCount c) ≡ take slotCount ys → c ≡ xs ++ ys
 two c xs ys l a b p q =
-    let d : length (drop most c) ≡ most = simp length-drop (omega arith) in
-    let x : take most c ≡ xs = p ∙ take-all most xs (omega arith) in
-    let y : drop most c ≡ ys = sym (take-all most (drop most c) (omega arith)) ∙ q ∙ take-all most ys (omega arith) in
-    sym (take-append-drop most c) ∙ rw (x, y)
+    let d : length (drop slotCount c) ≡ slotCount = simp length-drop (omega arith) in
+    let x : take slotCount c ≡ xs = p ∙ take-all slotCount xs (omega arith) in
+    let y : drop slotCount c ≡ ys = sym (take-all slotCount (drop slotCount c) (omega arith)) ∙ q ∙ take-all slotCount ys (omega arith) in
+    sym (take-append-drop slotCount c) ∙ rw (x, y)
 
-pub taking-end : (ss : List Slot) (av : List ℕ) (i : ℕ) (cells times seats : List ℕ) → length ss ≡ most → length av ≡ most → i ≡ most
-    → Taking ss av i cells times seats → Apart ss av (record { cells = cells; times = times; seats = seats })
-taking-end ss av i cells times seats ls la e t =
-    let u : Taking ss av most cells times seats = subst (λ (n : ℕ). Taking ss av n cells times seats) e t in
-    let a : length (map idOf ss) ≡ most = length-map ss idOf ∙ ls in
-    let b : length (map generationOf ss) ≡ most = length-map ss generationOf ∙ ls in
-    let f : length (map timeOf ss) ≡ most = length-map ss timeOf ∙ ls in
-    let g : length (map codeOf ss) ≡ most = length-map ss codeOf ∙ ls in
+pub taking-end : (ss : List Slot) (av : List ℕ) (i : ℕ) (numbers times states : List ℕ) → length ss ≡ slotCount → length av ≡ slotCount → i ≡ slotCount
+    → Taking ss av i numbers times states → Apart ss av (record { numbers = numbers; times = times; states = states })
+taking-end ss av i numbers times states ls la e t =
+    let u : Taking ss av slotCount numbers times states = subst (λ (n : ℕ). Taking ss av n numbers times states) e t in
+    let a : length (map idOf ss) ≡ slotCount = length-map ss idOf ∙ ls in
+    let b : length (map generationOf ss) ≡ slotCount = length-map ss generationOf ∙ ls in
+    let f : length (map timeOf ss) ≡ slotCount = length-map ss timeOf ∙ ls in
+    let g : length (map codeOf ss) ≡ slotCount = length-map ss codeOf ∙ ls in
     record {
-      cells = two cells (map idOf ss) (map generationOf ss) (u .cellsLong) a b (u .ids) (u .generations);
-      times = sym (take-all most times (omega (arith, u .timesLong))) ∙ u .since ∙ take-all most (map timeOf ss) (omega arith);
-      seats = two seats (map codeOf ss) av (u .seatsLong) g la (u .states) (u .order);
+      numbers = two numbers (map idOf ss) (map generationOf ss) (u .numbersLong) a b (u .ids) (u .generations);
+      times = sym (take-all slotCount times (omega (arith, u .timesLong))) ∙ u .since ∙ take-all slotCount (map timeOf ss) (omega arith);
+      states = two states (map codeOf ss) av (u .statesLong) g la (u .codes) (u .order);
     }
 
 -- ── Put together, one slot after the other ─────────────────────────────────────────────────────────────────────────────
 
-abbrev pub slotsOf : (cells times seats : List ℕ) → List Slot
-slotsOf cells times seats = together (take most cells) (Of.rows (drop most cells) times (take most seats))
+abbrev pub slotsOf : (numbers times states : List ℕ) → List Slot
+slotsOf numbers times states = together (take slotCount numbers) (Of.rows (drop slotCount numbers) times (take slotCount states))
 
-pub record Again (cells times seats : List ℕ) (r : Table) : Type 0 where
-  pub slots : r .slots ≡ slotsOf cells times seats
-  pub available : r .available ≡ drop most seats
+pub record Again (numbers times states : List ℕ) (r : Table) : Type 0 where
+  pub slots : r .slots ≡ slotsOf numbers times states
+  pub available : r .available ≡ drop slotCount states
 
 together-long : (xs : List ℕ) (ss : List Of.Slot) → length ss ≡ length xs → length (together xs ss) ≡ length xs
 unfolding together
@@ -202,48 +202,48 @@ rows-long (suc n) (g ∷ gs) [] ks a b c = absurd (omega arith)
 rows-long (suc n) (g ∷ gs) (t ∷ ts) [] a b c = absurd (omega arith)
 rows-long (suc n) (g ∷ gs) (t ∷ ts) (k ∷ ks) a b c = ap suc (rows-long n gs ts ks (omega arith) (omega arith) (omega arith))
 
-module _ (cells times seats : List ℕ) (lc : length cells ≡ 2 * most) (lt : length times ≡ most) (ls : length seats ≡ (2 * most)) where
-  front-long : length (take most cells) ≡ most
-  front-long = length-take-le most cells (omega arith)
+module _ (numbers times states : List ℕ) (lc : length numbers ≡ 2 * slotCount) (lt : length times ≡ slotCount) (ls : length states ≡ (2 * slotCount)) where
+  front-long : length (take slotCount numbers) ≡ slotCount
+  front-long = length-take-le slotCount numbers (omega arith)
 
-  rows-most : length (Of.rows (drop most cells) times (take most seats)) ≡ most
-  rows-most = rows-long most (drop most cells) times (take most seats) (simp length-drop (omega arith)) lt (length-take-le most seats (omega arith))
+  rows-most : length (Of.rows (drop slotCount numbers) times (take slotCount states)) ≡ slotCount
+  rows-most = rows-long slotCount (drop slotCount numbers) times (take slotCount states) (simp length-drop (omega arith)) lt (length-take-le slotCount states (omega arith))
 
-  pub slots-long : length (slotsOf cells times seats) ≡ most
-  slots-long = together-long (take most cells) (Of.rows (drop most cells) times (take most seats)) (rows-most ∙ sym front-long) ∙ front-long
+  pub slots-long : length (slotsOf numbers times states) ≡ slotCount
+  slots-long = together-long (take slotCount numbers) (Of.rows (drop slotCount numbers) times (take slotCount states)) (rows-most ∙ sym front-long) ∙ front-long
 
-  slots-at : (i : ℕ) (d : Slot) → i < most → getD (slotsOf cells times seats) i d ≡ slotOf (getD cells i 0) (getD cells (most + i) 0) (getD times i 0) (getD seats i 0)
+  slots-at : (i : ℕ) (d : Slot) → i < slotCount → getD (slotsOf numbers times states) i d ≡ slotOf (getD numbers i 0) (getD numbers (slotCount + i) 0) (getD times i 0) (getD states i 0)
   slots-at i d low =
-      together-at (take most cells) (Of.rows (drop most cells) times (take most seats)) i d (rows-most ∙ sym front-long) (omega (arith, front-long))
-      ∙ rw (row-at (drop most cells) times (take most seats) i (omega (arith, rows-most)), getD-take most cells i 0 low, getD-drop most cells i 0, getD-take most seats i 0 low)
+      together-at (take slotCount numbers) (Of.rows (drop slotCount numbers) times (take slotCount states)) i d (rows-most ∙ sym front-long) (omega (arith, front-long))
+      ∙ rw (row-at (drop slotCount numbers) times (take slotCount states) i (omega (arith, rows-most)), getD-take slotCount numbers i 0 low, getD-drop slotCount numbers i 0, getD-take slotCount states i 0 low)
 
 -- the first i are made
-pub record Putting (cells times seats : List ℕ) (i : ℕ) (slots : List Slot) (available : List ℕ) : Type 0 where
-  pub some : i ≤ most
-  pub slotsLong : length slots ≡ most
-  pub availableLong : length available ≡ most
-  pub rows : take i slots ≡ take i (slotsOf cells times seats)
-  pub order : take i available ≡ take i (drop most seats)
+pub record Putting (numbers times states : List ℕ) (i : ℕ) (slots : List Slot) (available : List ℕ) : Type 0 where
+  pub some : i ≤ slotCount
+  pub slotsLong : length slots ≡ slotCount
+  pub availableLong : length available ≡ slotCount
+  pub rows : take i slots ≡ take i (slotsOf numbers times states)
+  pub order : take i available ≡ take i (drop slotCount states)
 
-pub putting-more : (cells times seats : List ℕ) (i : ℕ) (slots : List Slot) (available : List ℕ) (s : Slot) → length cells ≡ (2 * most) → length times ≡ most → length seats ≡ (2 * most) → i < most
-    → Putting cells times seats i slots available → s ≡ slotOf (getD cells i 0) (getD cells (most + i) 0) (getD times i 0) (getD seats i 0)
-    → Putting cells times seats (i + 1) (set slots i s) (set available i (getD seats (most + i) 0))
-putting-more cells times seats i slots available s lc lt ls low t e =
-    let d : length (drop most seats) ≡ most = simp length-drop (omega arith) in
+pub putting-more : (numbers times states : List ℕ) (i : ℕ) (slots : List Slot) (available : List ℕ) (s : Slot) → length numbers ≡ (2 * slotCount) → length times ≡ slotCount → length states ≡ (2 * slotCount) → i < slotCount
+    → Putting numbers times states i slots available → s ≡ slotOf (getD numbers i 0) (getD numbers (slotCount + i) 0) (getD times i 0) (getD states i 0)
+    → Putting numbers times states (i + 1) (set slots i s) (set available i (getD states (slotCount + i) 0))
+putting-more numbers times states i slots available s lc lt ls low t e =
+    let d : length (drop slotCount states) ≡ slotCount = simp length-drop (omega arith) in
     record {
       some = omega arith;
       slotsLong = simp length-set (t .slotsLong);
       availableLong = simp length-set (t .availableLong);
-      rows = one-more (slotsOf cells times seats) slots s s i (omega (arith, t .slotsLong)) (omega (arith, slots-long cells times seats lc lt ls)) (e ∙ sym (slots-at cells times seats lc lt ls i s low)) (t .rows);
-      order = one-more (drop most seats) available 0 (getD seats (most + i) 0) i (omega (arith, t .availableLong)) (omega arith) (sym (getD-drop most seats i 0)) (t .order);
+      rows = one-more (slotsOf numbers times states) slots s s i (omega (arith, t .slotsLong)) (omega (arith, slots-long numbers times states lc lt ls)) (e ∙ sym (slots-at numbers times states lc lt ls i s low)) (t .rows);
+      order = one-more (drop slotCount states) available 0 (getD states (slotCount + i) 0) i (omega (arith, t .availableLong)) (omega arith) (sym (getD-drop slotCount states i 0)) (t .order);
     }
 
-pub putting-end : (cells times seats : List ℕ) (i : ℕ) (slots : List Slot) (available : List ℕ) → length cells ≡ (2 * most) → length times ≡ most → length seats ≡ (2 * most) → i ≡ most
-    → Putting cells times seats i slots available → Again cells times seats (record { slots = slots; available = available })
-putting-end cells times seats i slots available lc lt ls e t =
-    let u : Putting cells times seats most slots available = subst (λ (n : ℕ). Putting cells times seats n slots available) e t in
-    let d : length (drop most seats) ≡ most = simp length-drop (omega arith) in
+pub putting-end : (numbers times states : List ℕ) (i : ℕ) (slots : List Slot) (available : List ℕ) → length numbers ≡ (2 * slotCount) → length times ≡ slotCount → length states ≡ (2 * slotCount) → i ≡ slotCount
+    → Putting numbers times states i slots available → Again numbers times states (record { slots = slots; available = available })
+putting-end numbers times states i slots available lc lt ls e t =
+    let u : Putting numbers times states slotCount slots available = subst (λ (n : ℕ). Putting numbers times states n slots available) e t in
+    let d : length (drop slotCount states) ≡ slotCount = simp length-drop (omega arith) in
     record {
-      slots = sym (take-all most slots (omega (arith, u .slotsLong))) ∙ u .rows ∙ take-all most (slotsOf cells times seats) (omega (arith, slots-long cells times seats lc lt ls));
-      available = sym (take-all most available (omega (arith, u .availableLong))) ∙ u .order ∙ take-all most (drop most seats) (omega arith);
+      slots = sym (take-all slotCount slots (omega (arith, u .slotsLong))) ∙ u .rows ∙ take-all slotCount (slotsOf numbers times states) (omega (arith, slots-long numbers times states lc lt ls));
+      available = sym (take-all slotCount available (omega (arith, u .availableLong))) ∙ u .order ∙ take-all slotCount (drop slotCount states) (omega arith);
     }

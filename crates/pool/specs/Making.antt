@@ -3,7 +3,7 @@ use mathlib.Core.Option.{Option, none, some}
 use Prim.Native.Nat.{ℕ, _-_}
 use lib.ListN.{replicate}
 use Rattle.definition.specs.Words.{if_then_else_}
-use Rattle.definition.specs.Pool.{queueLength, most, withDefaults, inRange}
+use Rattle.definition.specs.Pool.{queueLength, slotCount, withDefaults, inRange}
 use Rattle.definition.specs.declared.Options.{Options}
 use Rattle.definition.specs.declared.Refusal.{Refusal}
 use Rattle.definition.specs.declared.Refusal.the-variants.{Malformed, OptionsOutOfRange}
@@ -17,7 +17,7 @@ use Rattle.pool.specs.declared.Counts.{Counts}
 -- ── Making a pool ──────────────────────────────────────────────────────────────────────────────────────────────────────
 
 abbrev pub freshPool : Options → Pool
-freshPool o = record { head = freshHead o; slots = replicate most (slotOf 0 0 0 0); available = replicate most 0; waiters = replicate queueLength 0 }
+freshPool o = record { head = freshHead o; slots = replicate slotCount (slotOf 0 0 0 0); available = replicate slotCount 0; waiters = replicate queueLength 0 }
 
 -- what a refused making gives: no structure test accepts it
 abbrev pub noPool : Pool

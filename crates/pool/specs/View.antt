@@ -34,8 +34,8 @@ seen s = record { generation = s .generation; time = s .time; state = stateNo (s
 abbrev pub viewOf : Pool → SlotPool
 viewOf p = record {
   options = p .head .options;
-  state = p .head .mode .state;
-  generation = p .head .mode .generation;
+  state = p .head .status .state;
+  generation = p .head .status .generation;
   nextId = p .head .«next_connection_id»;
   clock = p .head .clock;
   lastRequest = p .head .«last_request»;
@@ -52,14 +52,14 @@ viewOf p = record {
 
 -- ── Its columns ────────────────────────────────────────────────────────────────────────────────────────────────────────
 
-abbrev pub cellsOf : List Slot → List ℕ
-cellsOf ss = map idOf ss ++ map generationOf ss
+abbrev pub numbersOf : List Slot → List ℕ
+numbersOf ss = map idOf ss ++ map generationOf ss
 
 abbrev pub timesOf : List Slot → List ℕ
 timesOf ss = map timeOf ss
 
-abbrev pub seatsOf : List Slot → List ℕ → List ℕ
-seatsOf ss available = map codeOf ss ++ available
+abbrev pub statesOf : List Slot → List ℕ → List ℕ
+statesOf ss available = map codeOf ss ++ available
 
 -- ── Back ───────────────────────────────────────────────────────────────────────────────────────────────────────────────
 
@@ -85,7 +85,7 @@ together (x ∷ xs) (s ∷ ss) = slotOf x (s .generation) (s .time) (s .state) �
 abbrev pub headOf : SlotPool → Head
 headOf v = record {
   options = v .options;
-  mode = record { state = v .state; generation = v .generation };
+  status = record { state = v .state; generation = v .generation };
   «next_connection_id» = v .nextId;
   clock = v .clock;
   «last_request» = v .lastRequest;

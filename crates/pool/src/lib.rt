@@ -13,13 +13,13 @@ use definition::PinnedState;
 use definition::PoolState;
 use definition::Purpose;
 use definition::Refusal;
-use slots::Cells;
+use slots::Numbers;
 use slots::Head;
-use slots::Mode;
+use slots::Status;
 use slots::Outcome;
 use slots::QUEUE;
 use slots::SLOTS;
-use slots::Seats;
+use slots::States;
 use slots::Times;
 use slots::Waiters;
 use text::Given;
@@ -55,9 +55,9 @@ pub struct Counts {
 // ── slots and columns ──
 
 pub struct Parts {
-    pub cells: Cells,
+    pub numbers: Numbers,
     pub times: Times,
-    pub seats: Seats,
+    pub states: States,
 }
 
 pub struct Table {
@@ -113,38 +113,38 @@ fn slot_of(id: u32, generation: u32, time: u64, code: u8) -> Slot
 pub fn columns(slots: [Slot; SLOTS], available: [u8; SLOTS]) -> Parts
     ensures { λ r. ⌜ Apart slots available r ⌝ }
 {
-    let mut cells: Cells = [0; 2 * SLOTS];
+    let mut numbers: Numbers = [0; 2 * SLOTS];
     let mut times: Times = [0; SLOTS];
-    let mut seats: Seats = [0; 2 * SLOTS];
+    let mut states: States = [0; 2 * SLOTS];
     let mut i: usize = 0;
     while i < SLOTS {
         let s = slots[i];
         let k = s.state;
-        cells[i] = s.id;
-        cells[SLOTS + i] = s.generation;
+        numbers[i] = s.id;
+        numbers[SLOTS + i] = s.generation;
         times[i] = s.time;
-        seats[i] = code_of(k);
-        seats[SLOTS + i] = available[i];
+        states[i] = code_of(k);
+        states[SLOTS + i] = available[i];
         i += 1;
     }
     Parts {
-        cells: cells,
+        numbers: numbers,
         times: times,
-        seats: seats,
+        states: states,
     }
 }
 
-pub fn rows(cells: Cells, times: Times, seats: Seats) -> Table
-    ensures { λ r. ⌜ Again cells times seats r ⌝ }
+pub fn rows(numbers: Numbers, times: Times, states: States) -> Table
+    ensures { λ r. ⌜ Again numbers times states r ⌝ }
 {
     let vacant = slot_of(0, 0, 0, 0);
     let mut slots: [Slot; SLOTS] = [vacant; SLOTS];
     let mut available: [u8; SLOTS] = [0; SLOTS];
     let mut i: usize = 0;
     while i < SLOTS {
-        let s = slot_of(cells[i], cells[SLOTS + i], times[i], seats[i]);
+        let s = slot_of(numbers[i], numbers[SLOTS + i], times[i], states[i]);
         slots[i] = s;
-        available[i] = seats[SLOTS + i];
+        available[i] = states[SLOTS + i];
         i += 1;
     }
     Table {
@@ -195,7 +195,7 @@ pub fn fresh_head(o: Options) -> Head
 {
     Head {
         options: o,
-        mode: Mode {
+        status: Status {
             state: PoolState::New,
             generation: 0,
         },

@@ -12,8 +12,8 @@ use Rattle.definition.specs.Laws.{not-first}
 use Rattle.definition.specs.Words.{if_then_else_, _<?_, some?}
 use Rattle.definition.specs.Pool.{Pool, Conn, Waiter, isReady, total, queueLength, withClock, withWaiting, withAvailable, fresh}
 use Rattle.definition.specs.Records.{told}
-use Rattle.definition.specs.Steps.{Out, Act, _>>_, nothing, shelve, lendOut, createPendingConnection, createMany, closePerished, removePerished, ensureMinConnections, maintenance, own, canService, establish, lend, takeAvailable, checkOut, serveFront, service, serviced, event}
-use Rattle.definition.specs.Refusals.{first, ofKind, Result, Call, after, run}
+use Rattle.definition.specs.Steps.{Out, Act, _>>_, nothing, shelve, lendOut, createPendingConnection, createMany, closePerished, removePerished, ensureMinConnections, maintenance, handle, canService, establish, lend, takeAvailable, checkOut, serveFront, service, serviced, event}
+use Rattle.definition.specs.Refusals.{first, kindTests, Result, Call, after, run}
 use Rattle.definition.specs.declared.Options.{Options}
 use Rattle.definition.specs.declared.Event.{Event}
 use Rattle.definition.specs.declared.Event.the-variants.{CheckOut, WarmPool, Abandon, CheckIn, Clear, MarkAsReady, Succeeded, SucceededForPool, Failed, Maintenance, FillPool, Pin, ReturnToPinner, TakeFromPinner, Close}
@@ -26,10 +26,10 @@ use Rattle.promises.specs.Runs.{arrivals, next}
 use Rattle.promises.specs.Calls.{and-left, and-right, Named, Stepped, no-step, a-step, stepped, passed-kind, passed-named}
 use Rattle.promises.specs.Flow.{Calm, step-flow, step-calms, fresh-calm}
 use Rattle.promises.specs.Progress.{flow-lengths}
-use Rattle.promises.specs.Kept.{removePerished-keeps, own-keeps, step-options}
+use Rattle.promises.specs.Keeps.{removePerished-keeps, handle-keeps, step-options}
 use Rattle.promises.specs.Sums.{sum-length}
-use Rattle.promises.specs.Conserve.{created-append, held, Moves, removePerished-moves, refill-moves, own-moves}
-use Rattle.promises.specs.Numbered.{Plain, removePerished-plain, own-plain}
+use Rattle.promises.specs.Conserve.{created-append, held, Moves, removePerished-moves, refill-moves, handle-moves}
+use Rattle.promises.specs.Numbered.{Plain, removePerished-plain, handle-plain}
 
 -- ── How many there are ─────────────────────────────────────────────────────────────────────────────────────────────────
 
@@ -84,12 +84,12 @@ maintenance-fits p m k f =
     let fewer = plain-fits p (removePerished l p) (removePerished-moves l p refl) (removePerished-plain l p) in
     omega (arith, sizes q (ensureMinConnections q) (refill-moves q), rw (removePerished-keeps l p .options-stay) at (refill-count q))
 
-pub own-fits : (e : Event) (p : Pool) (m : ℕ) → Named e p → p .options .minimum ≤ m → total p ≤ m → Fits m (own e p)
-unfolding own
-own-fits e p m n k f = go (own-plain e p)
+pub handle-fits : (e : Event) (p : Pool) (m : ℕ) → Named e p → p .options .minimum ≤ m → total p ≤ m → Fits m (handle e p)
+unfolding handle
+handle-fits e p m n k f = go (handle-plain e p)
   where
-    go : Plain p (own e p) ⊎ (e ≡ Maintenance) → Fits m (own e p)
-    go (inl h) = omega (arith, plain-fits p (own e p) (own-moves e p n) h)
+    go : Plain p (handle e p) ⊎ (e ≡ Maintenance) → Fits m (handle e p)
+    go (inl h) = omega (arith, plain-fits p (handle e p) (handle-moves e p n) h)
     go (inr h) = rw h (maintenance-fits p m k f)
 
 -- ── The service stage ──────────────────────────────────────────────────────────────────────────────────────────────────
@@ -153,7 +153,7 @@ pub record Reached (p : Pool) : Type 0 where
   pub calm : Calm p
 
 -- an accepted request finds room in the queue
-kind-short : (p : Pool) (e : Event) (now : ℕ) → length (p .waiting) ≤ queueLength → first (ofKind p e now) ≡ none
+kind-short : (p : Pool) (e : Event) (now : ℕ) → length (p .waiting) ≤ queueLength → first (kindTests p e now) ≡ none
     → length (p .waiting) + length (arrivals e) ≤ queueLength
 kind-short p (CheckOut n) now h k = omega (arith, leb-false queueLength (length (p .waiting)) (not-first _ _ _ (not-first _ _ _ k .1) .0))
 kind-short p (WarmPool n) now h k = omega (arith, leb-false queueLength (length (p .waiting)) (not-first _ _ _ (not-first _ _ _ k .1) .0))
@@ -187,8 +187,8 @@ event-fits : (e : Event) (p : Pool) → Named e p → p .options .minimum ≤ p 
     → Fits (p .options .maximum) (event e p)
 unfolding event _>>_
 event-fits e p n k f =
-    let o = own-keeps e p .options-stay in
-    serviced-fits (serviced e) (own e p .pool) _ (rw o) (rw o k) (own-fits e p _ n k f)
+    let o = handle-keeps e p .options-stay in
+    serviced-fits (serviced e) (handle e p .pool) _ (rw o) (rw o k) (handle-fits e p _ n k f)
 
 step-fits : (p : Pool) (f : Frame) (room : ℕ) (r : Result) → Stepped p f room r → Reached p → Fits (p .options .maximum) (after p r)
 step-fits p f room r (no-step n) g = g .fits

@@ -8,7 +8,7 @@ use Rattle.definition.specs.Laws.{find-id}
 use Rattle.definition.specs.Words.{if_then_else_}
 use Rattle.definition.specs.Pool.{Pool, Conn, Waiter, has, find, withClock, withAvailable, fresh}
 use Rattle.definition.specs.Records.{Record, ConnectionClosed, Reply, told}
-use Rattle.definition.specs.Steps.{Out, Act, _>>_, close, emitAll, become, leaveLent, leavePending, shelve, lendOut, createPendingConnection, createMany, closePerished, tellAll, mode, queue, request, abandon, checkIn, clear, markAsReady, succeeded, succeededForPool, failed, removePerished, ensureMinConnections, maintenance, repin, shut, own, establish, lend, takeAvailable, checkOut, serveFront, service, event}
+use Rattle.definition.specs.Steps.{Out, Act, _>>_, close, emitAll, become, leaveLent, leavePending, shelve, lendOut, createPendingConnection, createMany, closePerished, tellAll, enter, queue, request, abandon, checkIn, clear, markAsReady, succeeded, succeededForPool, failed, removePerished, ensureMinConnections, maintenance, repin, shut, handle, establish, lend, takeAvailable, checkOut, serveFront, service, event}
 use Rattle.definition.specs.Refusals.{Result, Call, after, run}
 use Rattle.definition.specs.declared.Options.{Options}
 use Rattle.definition.specs.declared.Event.{Event}
@@ -186,26 +186,26 @@ unfolding sumOf
 shutting-moves l p = record { even = λ w. rw (shutting-closed, shutting-created) (omega arith) }
 
 shut-moves : (p : Pool) → Moves [] [] p (shut p)
-unfolding shut mode
+unfolding shut enter
 shut-moves p = moves-then _ _ p (empty-moves p) (moves-then _ _ _ (shutting-moves (p .available) _) (search moving depth 8))
 
-pub own-moves : (e : Event) (p : Pool) → Named e p → Moves [] [] p (own e p)
-unfolding own abandon clear markAsReady maintenance mode Named
-own-moves (CheckOut n) p h = request-moves n false p
-own-moves (WarmPool n) p h = request-moves n true p
-own-moves (Abandon n) p h = search moving
-own-moves (CheckIn n errored executing letGo) p h = checkIn-moves n errored executing letGo p h
-own-moves (Clear timeout cause) p h = search moving depth 10
-own-moves MarkAsReady p h = search moving depth 8
-own-moves (Succeeded n) p h = succeeded-moves n p h
-own-moves (SucceededForPool n opened) p h = succeededForPool-moves n opened p h
-own-moves (Failed n) p h = failed-moves n p h
-own-moves Maintenance p h = search (moving, refill-moves) depth 8
-own-moves FillPool p h = search moving
-own-moves (Pin n) p h = repin-moves _ n p
-own-moves (ReturnToPinner n) p h = repin-moves _ n p
-own-moves (TakeFromPinner n) p h = repin-moves _ n p
-own-moves Close p h = shut-moves p
+pub handle-moves : (e : Event) (p : Pool) → Named e p → Moves [] [] p (handle e p)
+unfolding handle abandon clear markAsReady maintenance enter Named
+handle-moves (CheckOut n) p h = request-moves n false p
+handle-moves (WarmPool n) p h = request-moves n true p
+handle-moves (Abandon n) p h = search moving
+handle-moves (CheckIn n errored executing letGo) p h = checkIn-moves n errored executing letGo p h
+handle-moves (Clear timeout cause) p h = search moving depth 10
+handle-moves MarkAsReady p h = search moving depth 8
+handle-moves (Succeeded n) p h = succeeded-moves n p h
+handle-moves (SucceededForPool n opened) p h = succeededForPool-moves n opened p h
+handle-moves (Failed n) p h = failed-moves n p h
+handle-moves Maintenance p h = search (moving, refill-moves) depth 8
+handle-moves FillPool p h = search moving
+handle-moves (Pin n) p h = repin-moves _ n p
+handle-moves (ReturnToPinner n) p h = repin-moves _ n p
+handle-moves (TakeFromPinner n) p h = repin-moves _ n p
+handle-moves Close p h = shut-moves p
 
 -- ── The service stage ──────────────────────────────────────────────────────────────────────────────────────────────────
 
@@ -246,7 +246,7 @@ service-moves p = search (moving, serveFront-moves)
 
 event-moves : (e : Event) (p : Pool) → Named e p → Moves [] [] p (event e p)
 unfolding event
-event-moves e p h = then₀ _ _ p (own-moves e p h) (search (moving, service-moves))
+event-moves e p h = then₀ _ _ p (handle-moves e p h) (search (moving, service-moves))
 
 step-moves : (p : Pool) (f : Frame) (room : ℕ) (r : Result) → Stepped p f room r → Moves [] [] p (after p r)
 unfolding held
@@ -260,10 +260,10 @@ run-moves (c ∷ cs) p = then₀ _ _ p (step-moves p (c .frame) (c .room) _ (ste
 
 -- the same up to the service stage of one more event
 pub until-service-moves : (cs : List Call) (p : Pool) (e : Event) (now room : ℕ) → Passed (run cs p .pool) e now room
-    → Moves [] [] p ((run cs >> (λ q. own e (withClock q now))) p)
+    → Moves [] [] p ((run cs >> (λ q. handle e (withClock q now))) p)
 unfolding held
 until-service-moves cs p e now room h =
-    then₀ _ _ p (run-moves cs p) (record { even = own-moves e (withClock (run cs p .pool) now) (passed-named (run cs p .pool) e now room h) .even })
+    then₀ _ _ p (run-moves cs p) (record { even = handle-moves e (withClock (run cs p .pool) now) (passed-named (run cs p .pool) e now room h) .even })
 
 -- what is created from a fresh pool on is what is closed and what the pool then holds
 pub conserved : (o : Options) (out : Out Pool) → Moves [] [] (fresh o) out → (w : ℕ → ℕ)

@@ -6,9 +6,9 @@ use Prim.Native.Nat.{ℕ, zero, suc, _+_, _-_, _*_, _≤_, min}
 use lib.ListN.{length, length-append, length-map, length-reverse}
 use native.Mathlib.Omega.{arith}
 use Rattle.definition.specs.Words.{if_then_else_}
-use Rattle.definition.specs.Pool.{Pool, Conn, Waiter, isReady, total, most, withClock, withLastRequest, withWaiting, withAvailable}
+use Rattle.definition.specs.Pool.{Pool, Conn, Waiter, isReady, total, slotCount, withClock, withLastRequest, withWaiting, withAvailable}
 use Rattle.definition.specs.Records.{Record, PoolCleared, Reply, Cleared, told}
-use Rattle.definition.specs.Steps.{Out, Act, _>>_, nothing, emit, become, leaveLent, leavePending, shelve, lendOut, createPendingConnection, createMany, closePerished, tellAll, mode, queue, request, abandon, checkIn, clear, markAsReady, succeeded, succeededForPool, failed, removePerished, ensureMinConnections, maintenance, repin, shut, own, establish, lend, takeAvailable, checkOut, serveFront, service, serviced, event}
+use Rattle.definition.specs.Steps.{Out, Act, _>>_, nothing, emit, become, leaveLent, leavePending, shelve, lendOut, createPendingConnection, createMany, closePerished, tellAll, enter, queue, request, abandon, checkIn, clear, markAsReady, succeeded, succeededForPool, failed, removePerished, ensureMinConnections, maintenance, repin, shut, handle, establish, lend, takeAvailable, checkOut, serveFront, service, serviced, event}
 use Rattle.definition.specs.Refusals.{Result, after}
 use Rattle.definition.specs.declared.Event.{Event}
 use Rattle.definition.specs.declared.Event.the-variants.{CheckOut, WarmPool, Abandon, CheckIn, Clear, MarkAsReady, Succeeded, SucceededForPool, Failed, Maintenance, FillPool, Pin, ReturnToPinner, TakeFromPinner, Close}
@@ -19,8 +19,8 @@ use Rattle.definition.specs.declared.Purpose.the-variants.{Background}
 use Rattle.definition.specs.Log.{closed}
 use Rattle.definition.specs.Sentences.{if-both}
 use Rattle.promises.specs.Calls.{Named, Stepped, no-step, a-step, passed-named}
-use Rattle.promises.specs.Kept.{removePerished-keeps}
-use Rattle.promises.specs.Bound.{Reached, own-fits}
+use Rattle.promises.specs.Keeps.{removePerished-keeps}
+use Rattle.promises.specs.Bound.{Reached, handle-fits}
 
 -- ── Closed by a service stage ──────────────────────────────────────────────────────────────────────────────────────────
 
@@ -108,7 +108,7 @@ cleared-few true r a p = omega (arith, tellAll-few a p)
 cleared-few false r a p = omega arith
 
 clear-few : (timeout : Bool) (cause : ℕ) (p : Pool) → Few (length (p .waiting) + 2) (clear timeout cause p)
-unfolding clear mode if_then_else_ _>>_
+unfolding clear enter if_then_else_ _>>_
 clear-few true cause p = simp length-append (omega (arith, cleared-few (isReady (p .state)) (PoolCleared true cause (p .generation + 1)) (Cleared cause) p))
 clear-few false cause p = simp length-append (omega (arith, cleared-few (isReady (p .state)) (PoolCleared false cause (p .generation + 1)) (Cleared cause) p))
 
@@ -130,26 +130,26 @@ maintenance-few p =
     (rw (removePerished-keeps (p .available) p .options-stay) at (refill-few q))
 
 shut-few : (p : Pool) → Few (length (p .available) + length (p .waiting) + 1) (shut p)
-unfolding shut mode tellAll _>>_
+unfolding shut enter tellAll _>>_
 shut-few p = simp (length-append, length-map) (omega arith)
 
-own-few : (e : Event) (p : Pool) → Few (length (p .available) + length (p .waiting) + p .options .minimum + 2) (own e p)
-unfolding own request abandon markAsReady succeeded failed repin leavePending lendOut mode _>>_
-own-few (CheckOut n) p = omega (arith, queue-few n false (p .state) (withLastRequest p n))
-own-few (WarmPool n) p = omega (arith, queue-few n true (p .state) (withLastRequest p n))
-own-few (Abandon n) p = omega arith
-own-few (CheckIn n errored executing letGo) p = omega (arith, checkIn-few n errored executing letGo p)
-own-few (Clear timeout cause) p = omega (arith, clear-few timeout cause p)
-own-few MarkAsReady p = few-if _ _ p (λ _. omega arith) (λ _. omega arith)
-own-few (Succeeded n) p = omega arith
-own-few (SucceededForPool n opened) p = omega (arith, succeededForPool-few n opened p)
-own-few (Failed n) p = omega arith
-own-few Maintenance p = omega (arith, maintenance-few p)
-own-few FillPool p = omega arith
-own-few (Pin n) p = omega arith
-own-few (ReturnToPinner n) p = omega arith
-own-few (TakeFromPinner n) p = omega arith
-own-few Close p = omega (arith, shut-few p)
+handle-few : (e : Event) (p : Pool) → Few (length (p .available) + length (p .waiting) + p .options .minimum + 2) (handle e p)
+unfolding handle request abandon markAsReady succeeded failed repin leavePending lendOut enter _>>_
+handle-few (CheckOut n) p = omega (arith, queue-few n false (p .state) (withLastRequest p n))
+handle-few (WarmPool n) p = omega (arith, queue-few n true (p .state) (withLastRequest p n))
+handle-few (Abandon n) p = omega arith
+handle-few (CheckIn n errored executing letGo) p = omega (arith, checkIn-few n errored executing letGo p)
+handle-few (Clear timeout cause) p = omega (arith, clear-few timeout cause p)
+handle-few MarkAsReady p = few-if _ _ p (λ _. omega arith) (λ _. omega arith)
+handle-few (Succeeded n) p = omega arith
+handle-few (SucceededForPool n opened) p = omega (arith, succeededForPool-few n opened p)
+handle-few (Failed n) p = omega arith
+handle-few Maintenance p = omega (arith, maintenance-few p)
+handle-few FillPool p = omega arith
+handle-few (Pin n) p = omega arith
+handle-few (ReturnToPinner n) p = omega arith
+handle-few (TakeFromPinner n) p = omega arith
+handle-few Close p = omega (arith, shut-few p)
 
 lend-few : (w : Waiter) (c : Conn) (p : Pool) → Few 1 (lend w c p)
 unfolding lend shelve lendOut told
@@ -177,14 +177,14 @@ event-few : (e : Event) (p : Pool) (m : ℕ) → Named e p → p .options .minim
 unfolding event
 event-few e p m n k f =
     let l = length (p .available) + length (p .waiting) + p .options .minimum + 2 in
-    let q = own e p .pool in
-    let fits = own-fits e p m n k f in
-    let written : Few (l + (length (q .available) + 2)) (event e p) = few-then l (length (q .available) + 2) _ _ p (own-few e p) (service-few (serviced e) q) in
+    let q = handle e p .pool in
+    let fits = handle-fits e p m n k f in
+    let written : Few (l + (length (q .available) + 2)) (event e p) = few-then l (length (q .available) + 2) _ _ p (handle-few e p) (service-few (serviced e) q) in
     omega arith
 
-pub step-few : (p : Pool) (f : Frame) (room : ℕ) (r : Result) → Stepped p f room r → Reached p → p .options .maximum ≤ most
+pub step-few : (p : Pool) (f : Frame) (room : ℕ) (r : Result) → Stepped p f room r → Reached p → p .options .maximum ≤ slotCount
     → length (after p r .records) ≤ 512
 step-few p f room r (no-step n) g h = omega arith
 step-few p f room r (a-step {e = e} {now = now} {room = room'} s) g h =
-    let few = event-few e (withClock p now) most (passed-named p e now room' s) (omega (arith, g .ordered)) (omega (arith, g .fits)) in
+    let few = event-few e (withClock p now) slotCount (passed-named p e now room' s) (omega (arith, g .ordered)) (omega (arith, g .fits)) in
     omega (arith, g .short)

@@ -7,7 +7,7 @@ use lib.ListN.{length}
 use Rattle.definition.specs.Words.{if_then_else_, _=?_}
 use Rattle.definition.specs.Pool.{Pool, Conn, Waiter, isReady, isClosed, withClock, withWaiting, fresh}
 use Rattle.definition.specs.Records.{Record, ConnectionClosed, PoolCleared, Interrupt, Reply, Cleared}
-use Rattle.definition.specs.Steps.{Out, Act, _>>_, nothing, emit, leaveLent, leavePending, shelve, lendOut, createPendingConnection, createMany, closePerished, tellAll, mode, queue, request, abandon, checkIn, clear, markAsReady, succeeded, succeededForPool, failed, removePerished, ensureMinConnections, maintenance, repin, shut, own, canService, serveFront, service, event}
+use Rattle.definition.specs.Steps.{Out, Act, _>>_, nothing, emit, leaveLent, leavePending, shelve, lendOut, createPendingConnection, createMany, closePerished, tellAll, enter, queue, request, abandon, checkIn, clear, markAsReady, succeeded, succeededForPool, failed, removePerished, ensureMinConnections, maintenance, repin, shut, handle, canService, serveFront, service, event}
 use Rattle.definition.specs.Refusals.{takenAfterClose, Result, Call, after, run}
 use Rattle.definition.specs.declared.Options.{Options}
 use Rattle.definition.specs.declared.Event.{Event}
@@ -95,23 +95,23 @@ abandon-flow n p = record { same = append-nil _ ∙ marked (p .waiting) }
 ruleset flowing = (flow-then, flow-if, quiet, create-flow, createMany-flow, tellAll-flow, removePerished-flow, shuttings)
 
 -- an event of an open pool, or one that a closed pool still takes
-pub own-flow : (e : Event) (p : Pool) → Calm p → isClosed (p .state) && not (takenAfterClose e) ≡ false → Flow (arrivals e) p (own e p)
-unfolding own checkIn clear markAsReady succeeded succeededForPool failed maintenance ensureMinConnections repin shut leaveLent leavePending shelve lendOut mode
-own-flow (CheckOut n) p c o = request-flow n false p c (rw and-true at o)
-own-flow (WarmPool n) p c o = request-flow n true p c (rw and-true at o)
-own-flow (Abandon n) p c o = abandon-flow n p
-own-flow (CheckIn n errored executing letGo) p c o = search flowing depth 16
-own-flow (Clear timeout cause) p c o = search flowing depth 16
-own-flow MarkAsReady p c o = search flowing depth 16
-own-flow (Succeeded n) p c o = search flowing depth 16
-own-flow (SucceededForPool n opened) p c o = search flowing depth 16
-own-flow (Failed n) p c o = search flowing depth 16
-own-flow Maintenance p c o = search flowing depth 16
-own-flow FillPool p c o = search flowing
-own-flow (Pin n) p c o = search flowing
-own-flow (ReturnToPinner n) p c o = search flowing
-own-flow (TakeFromPinner n) p c o = search flowing
-own-flow Close p c o = search flowing depth 16
+pub handle-flow : (e : Event) (p : Pool) → Calm p → isClosed (p .state) && not (takenAfterClose e) ≡ false → Flow (arrivals e) p (handle e p)
+unfolding handle checkIn clear markAsReady succeeded succeededForPool failed maintenance ensureMinConnections repin shut leaveLent leavePending shelve lendOut enter
+handle-flow (CheckOut n) p c o = request-flow n false p c (rw and-true at o)
+handle-flow (WarmPool n) p c o = request-flow n true p c (rw and-true at o)
+handle-flow (Abandon n) p c o = abandon-flow n p
+handle-flow (CheckIn n errored executing letGo) p c o = search flowing depth 16
+handle-flow (Clear timeout cause) p c o = search flowing depth 16
+handle-flow MarkAsReady p c o = search flowing depth 16
+handle-flow (Succeeded n) p c o = search flowing depth 16
+handle-flow (SucceededForPool n opened) p c o = search flowing depth 16
+handle-flow (Failed n) p c o = search flowing depth 16
+handle-flow Maintenance p c o = search flowing depth 16
+handle-flow FillPool p c o = search flowing
+handle-flow (Pin n) p c o = search flowing
+handle-flow (ReturnToPinner n) p c o = search flowing
+handle-flow (TakeFromPinner n) p c o = search flowing
+handle-flow Close p c o = search flowing depth 16
 
 -- the service stage leaves those after the one that it answers
 pub service-flow : (p : Pool) → Flow [] p (service p)
@@ -181,27 +181,27 @@ clear-empties false true r₁ r₂ x p h = h refl
 clear-empties false false r₁ r₂ x p h = h refl
 
 clear-calms : (timeout : Bool) (cause : ℕ) (p : Pool) → Calms p (clear timeout cause p)
-unfolding clear mode _>>_ Calm
+unfolding clear enter _>>_ Calm
 clear-calms timeout cause p =
     record { calms = λ k h. clear-empties (isReady (p .state)) timeout (PoolCleared timeout cause (p .generation + 1)) (Interrupt (length (p .lent))) (Cleared cause) p k }
 
-own-calms : (e : Event) (p : Pool) → Calms p (own e p)
-unfolding own checkIn markAsReady succeeded succeededForPool failed maintenance ensureMinConnections repin shut leaveLent leavePending shelve lendOut mode tellAll _>>_
-own-calms (CheckOut n) p = request-calms n false p
-own-calms (WarmPool n) p = request-calms n true p
-own-calms (Abandon n) p = abandon-calms n p
-own-calms (CheckIn n errored executing letGo) p = search calming depth 16
-own-calms (Clear timeout cause) p = clear-calms timeout cause p
-own-calms MarkAsReady p = search calming depth 8
-own-calms (Succeeded n) p = search calming depth 8
-own-calms (SucceededForPool n opened) p = search calming depth 8
-own-calms (Failed n) p = search calming depth 8
-own-calms Maintenance p = search (calming, createMany-calms, removePerished-calms) depth 8
-own-calms FillPool p = search calming depth 8
-own-calms (Pin n) p = search calming depth 8
-own-calms (ReturnToPinner n) p = search calming depth 8
-own-calms (TakeFromPinner n) p = search calming depth 8
-own-calms Close p = search calming depth 8
+handle-calms : (e : Event) (p : Pool) → Calms p (handle e p)
+unfolding handle checkIn markAsReady succeeded succeededForPool failed maintenance ensureMinConnections repin shut leaveLent leavePending shelve lendOut enter tellAll _>>_
+handle-calms (CheckOut n) p = request-calms n false p
+handle-calms (WarmPool n) p = request-calms n true p
+handle-calms (Abandon n) p = abandon-calms n p
+handle-calms (CheckIn n errored executing letGo) p = search calming depth 16
+handle-calms (Clear timeout cause) p = clear-calms timeout cause p
+handle-calms MarkAsReady p = search calming depth 8
+handle-calms (Succeeded n) p = search calming depth 8
+handle-calms (SucceededForPool n opened) p = search calming depth 8
+handle-calms (Failed n) p = search calming depth 8
+handle-calms Maintenance p = search (calming, createMany-calms, removePerished-calms) depth 8
+handle-calms FillPool p = search calming depth 8
+handle-calms (Pin n) p = search calming depth 8
+handle-calms (ReturnToPinner n) p = search calming depth 8
+handle-calms (TakeFromPinner n) p = search calming depth 8
+handle-calms Close p = search calming depth 8
 
 serveFront-calms : (l : List Waiter) (p : Pool) → isReady (p .state) ≡ true → Calms p (serveFront l p)
 unfolding serveFront _>>_
@@ -216,11 +216,11 @@ service-calms p = calms-if _ _ p (λ h. serveFront-calms (p .waiting) p (and-lef
 
 pub event-flow : (e : Event) (p : Pool) → Calm p → isClosed (p .state) && not (takenAfterClose e) ≡ false → Flow (arrivals e) p (event e p)
 unfolding event
-event-flow e p c o = flow-then _ _ p (own-flow e p c o) (search (flowing, service-flow))
+event-flow e p c o = flow-then _ _ p (handle-flow e p c o) (search (flowing, service-flow))
 
 pub event-calms : (e : Event) (p : Pool) → Calms p (event e p)
 unfolding event
-event-calms e p = calms-then _ _ p (own-calms e p) (search (calming, service-calms))
+event-calms e p = calms-then _ _ p (handle-calms e p) (search (calming, service-calms))
 
 -- the same of a call's result, and of what it leaves
 pub step-flow : (p : Pool) (f : Frame) (room : ℕ) (r : Result) → Calm p → Stepped p f room r → Flow (taken f r) p (after p r)

@@ -4,7 +4,7 @@ use mathlib.Core.Bool.{Bool, true, false, true≢false, false≢true, not, _&&_}
 use mathlib.Core.List.{List, [], _∷_, _++_, reverse, reverse-cons, append-nil}
 use borrow.Author.Tests.{not-true}
 use Rattle.definition.specs.Words.{if_then_else_, any?, _∷ʳ_}
-use Rattle.definition.specs.Pool.{Pool, Conn, Waiter, perished, turned, withWaiting}
+use Rattle.definition.specs.Pool.{Pool, Conn, Waiter, perished, withState, withWaiting}
 use Rattle.definition.specs.Steps.{Out, Act, _>>_, canService, checkOut, serveFront, service}
 use Rattle.definition.specs.declared.ConnectionState.the-variants.{CheckedIn}
 use Rattle.definition.specs.Sentences.{if-both, All, FrontFails, found, others, Took, takes}
@@ -15,7 +15,7 @@ pub record GaveBack (q : Pool) (o : Out Pool) : Type 0 where
   pub given : Conn
   pub rest : List Conn
   pub healthy : perished q given ≡ false
-  pub at-back : o .pool .available ≡ rest ∷ʳ turned CheckedIn (q .clock) given
+  pub at-back : o .pool .available ≡ rest ∷ʳ withState CheckedIn (q .clock) given
 
 module _ (t : Conn → Bool) where
   all-append : (a b : List Conn) → All t (a ++ b) → All t a × All t b

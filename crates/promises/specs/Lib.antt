@@ -1,7 +1,7 @@
 pub mod Runs
 pub mod Calls
 pub mod Flow
-pub mod Kept
+pub mod Keeps
 pub mod Progress
 pub mod Sums
 pub mod Conserve

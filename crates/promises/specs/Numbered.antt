@@ -11,7 +11,7 @@ use borrow.Author.Tests.{eqb-true, ne-eqb}
 use Rattle.definition.specs.Words.{if_then_else_, _=?_}
 use Rattle.definition.specs.Pool.{Pool, Conn, Waiter, withClock}
 use Rattle.definition.specs.Records.{told}
-use Rattle.definition.specs.Steps.{Out, Act, _>>_, leaveLent, leavePending, shelve, lendOut, createPendingConnection, createMany, closePerished, tellAll, mode, queue, request, abandon, checkIn, clear, markAsReady, succeeded, succeededForPool, failed, removePerished, ensureMinConnections, maintenance, repin, shut, own, establish, lend, takeAvailable, checkOut, serveFront, service, event}
+use Rattle.definition.specs.Steps.{Out, Act, _>>_, leaveLent, leavePending, shelve, lendOut, createPendingConnection, createMany, closePerished, tellAll, enter, queue, request, abandon, checkIn, clear, markAsReady, succeeded, succeededForPool, failed, removePerished, ensureMinConnections, maintenance, repin, shut, handle, establish, lend, takeAvailable, checkOut, serveFront, service, event}
 use Rattle.definition.specs.Refusals.{Result, Call, after, run}
 use Rattle.definition.specs.declared.Event.{Event}
 use Rattle.definition.specs.declared.Event.the-variants.{CheckOut, WarmPool, Abandon, CheckIn, Clear, MarkAsReady, Succeeded, SucceededForPool, Failed, Maintenance, FillPool, Pin, ReturnToPinner, TakeFromPinner, Close}
@@ -66,23 +66,23 @@ removePerished-plain (c ∷ cs) p =
     plain-if _ _ p (λ _. plain-then _ _ p (search plainly) (plain-then _ _ _ (search plainly) (removePerished-plain cs _))) (λ _. search plainly)
 
 -- all events but maintenance create nothing before the service stage
-pub own-plain : (e : Event) (p : Pool) → Plain p (own e p) ⊎ (e ≡ Maintenance)
-unfolding own request abandon checkIn clear markAsReady succeeded succeededForPool failed repin shut leaveLent leavePending shelve lendOut mode tellAll
-own-plain (CheckOut n) p = inl (search (plainly, queue-plain))
-own-plain (WarmPool n) p = inl (search (plainly, queue-plain))
-own-plain (Abandon n) p = inl (search plainly)
-own-plain (CheckIn n errored executing letGo) p = inl (search plainly depth 16)
-own-plain (Clear timeout cause) p = inl (search plainly depth 16)
-own-plain MarkAsReady p = inl (search plainly depth 16)
-own-plain (Succeeded n) p = inl (search plainly depth 16)
-own-plain (SucceededForPool n opened) p = inl (search plainly depth 16)
-own-plain (Failed n) p = inl (search plainly depth 16)
-own-plain Maintenance p = inr refl
-own-plain FillPool p = inl (search plainly)
-own-plain (Pin n) p = inl (search plainly)
-own-plain (ReturnToPinner n) p = inl (search plainly)
-own-plain (TakeFromPinner n) p = inl (search plainly)
-own-plain Close p = inl (search plainly depth 16)
+pub handle-plain : (e : Event) (p : Pool) → Plain p (handle e p) ⊎ (e ≡ Maintenance)
+unfolding handle request abandon checkIn clear markAsReady succeeded succeededForPool failed repin shut leaveLent leavePending shelve lendOut enter tellAll
+handle-plain (CheckOut n) p = inl (search (plainly, queue-plain))
+handle-plain (WarmPool n) p = inl (search (plainly, queue-plain))
+handle-plain (Abandon n) p = inl (search plainly)
+handle-plain (CheckIn n errored executing letGo) p = inl (search plainly depth 16)
+handle-plain (Clear timeout cause) p = inl (search plainly depth 16)
+handle-plain MarkAsReady p = inl (search plainly depth 16)
+handle-plain (Succeeded n) p = inl (search plainly depth 16)
+handle-plain (SucceededForPool n opened) p = inl (search plainly depth 16)
+handle-plain (Failed n) p = inl (search plainly depth 16)
+handle-plain Maintenance p = inr refl
+handle-plain FillPool p = inl (search plainly)
+handle-plain (Pin n) p = inl (search plainly)
+handle-plain (ReturnToPinner n) p = inl (search plainly)
+handle-plain (TakeFromPinner n) p = inl (search plainly)
+handle-plain Close p = inl (search plainly depth 16)
 
 -- ── Numbers go on ──────────────────────────────────────────────────────────────────────────────────────────────────────
 
@@ -121,11 +121,11 @@ maintenance-numbers : (p : Pool) → Numbers p (maintenance p)
 unfolding maintenance ensureMinConnections
 maintenance-numbers p = search (numbering, removePerished-plain, createMany-numbers)
 
-own-numbers : (e : Event) (p : Pool) → Numbers p (own e p)
-unfolding own
-own-numbers e p = go (own-plain e p)
+handle-numbers : (e : Event) (p : Pool) → Numbers p (handle e p)
+unfolding handle
+handle-numbers e p = go (handle-plain e p)
   where
-    go : Plain p (own e p) ⊎ (e ≡ Maintenance) → Numbers p (own e p)
+    go : Plain p (handle e p) ⊎ (e ≡ Maintenance) → Numbers p (handle e p)
     go (inl h) = plain-numbers _ _ h
     go (inr h) = rw h (maintenance-numbers p)
 
@@ -151,7 +151,7 @@ service-numbers p = search (numbering, serveFront-numbers)
 
 event-numbers : (e : Event) (p : Pool) → Numbers p (event e p)
 unfolding event
-event-numbers e p = numbers-then _ _ p (own-numbers e p) (search (numbering, service-numbers))
+event-numbers e p = numbers-then _ _ p (handle-numbers e p) (search (numbering, service-numbers))
 
 step-numbers : (p : Pool) (f : Frame) (room : ℕ) (r : Result) → Stepped p f room r → Numbers p (after p r)
 step-numbers p f room r (no-step n) = search numbering
@@ -165,9 +165,9 @@ run-numbers [] p = search numbering
 run-numbers (c ∷ cs) p = numbers-then _ _ p (step-numbers p (c .frame) (c .room) _ (stepped p (c .frame) (c .room))) (run-numbers cs (next p c))
 
 -- the same up to the service stage of one more event
-pub until-service-numbers : (cs : List Call) (p : Pool) (e : Event) (now : ℕ) → Numbers p ((run cs >> (λ q. own e (withClock q now))) p)
+pub until-service-numbers : (cs : List Call) (p : Pool) (e : Event) (now : ℕ) → Numbers p ((run cs >> (λ q. handle e (withClock q now))) p)
 until-service-numbers cs p e now =
-    let k = own-numbers e (withClock (run cs p .pool) now) in
+    let k = handle-numbers e (withClock (run cs p .pool) now) in
     numbers-then _ _ p (run-numbers cs p) (record { in-turn = k .in-turn; next-is = k .next-is })
 
 -- ── Once ───────────────────────────────────────────────────────────────────────────────────────────────────────────────

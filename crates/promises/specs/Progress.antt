@@ -8,7 +8,7 @@ use native.Mathlib.Omega.{arith}
 use borrow.Author.Tests.{ltb-true}
 use Rattle.definition.specs.Words.{if_then_else_, _<?_, any?, some?}
 use Rattle.definition.specs.Pool.{Pool, Waiter, isReady, isClosed, withClock, withWaiting}
-use Rattle.definition.specs.Steps.{Out, _>>_, nothing, tellAll, mode, abandon, repin, shut, own, canService, serveFront, service, serviced, event}
+use Rattle.definition.specs.Steps.{Out, _>>_, nothing, tellAll, enter, abandon, repin, shut, handle, canService, serveFront, service, serviced, event}
 use Rattle.definition.specs.Refusals.{takenAfterClose, Result, Refused, Accepted, Call, after, run}
 use Rattle.definition.specs.declared.Event.{Event}
 use Rattle.definition.specs.declared.Event.the-variants.{CheckOut, WarmPool, Abandon, CheckIn, Clear, MarkAsReady, Succeeded, SucceededForPool, Failed, Maintenance, FillPool, Pin, ReturnToPinner, TakeFromPinner, Close}
@@ -18,7 +18,7 @@ use Rattle.definition.specs.Log.{answered, ids}
 use Rattle.promises.specs.Runs.{arrivals, taken, accepted, result, next, frontAbandoned, givesBack, puts, oneIf, countOf, times}
 use Rattle.definition.specs.Sentences.{answered-append, checkOut-says}
 use Rattle.promises.specs.Calls.{and-left, and-right, Stepped, no-step, a-step, stepped, passed-open}
-use Rattle.promises.specs.Flow.{Flow, Calm, own-flow, step-flow, step-calms, run-flow}
+use Rattle.promises.specs.Flow.{Flow, Calm, handle-flow, step-flow, step-calms, run-flow}
 
 if-true : {A : Type 0} {b : Bool} (x y : A) → b ≡ true → (if b then x else y) ≡ x
 unfolding if_then_else_
@@ -27,7 +27,7 @@ if-true {b = false} x y h = absurd (false≢true h)
 
 -- the event leaves a ready pool with a connection on its available list, and the service stage follows: more than `puts` asks
 unfoldable offers : Event → Pool → Bool
-offers e p = serviced e && (isReady (own e p .pool .state) && some? (own e p .pool .available))
+offers e p = serviced e && (isReady (handle e p .pool .state) && some? (handle e p .pool .available))
 
 -- ── An offer is an answer ──────────────────────────────────────────────────────────────────────────────────────────────
 
@@ -55,8 +55,8 @@ unfolding event offers _>>_
 event-answers e p c o h =
     let s : serviced e ≡ true = and-left _ _ h in
     let r = and-right (serviced e) _ h in
-    let q = own e p .pool in
-    let k = flow-lengths p (own e p) (own-flow e p c o) in
+    let q = handle e p .pool in
+    let k = flow-lengths p (handle e p) (handle-flow e p c o) in
     let v = service-answers q (and-left _ _ r) (and-right (isReady (q .state)) _ r) in
     rw (answered-append, length-append, if-true service nothing s) (omega arith)
 
@@ -93,8 +93,8 @@ some-of-any t [] h = h
 some-of-any t (x ∷ l) h = refl
 
 -- the kinds that no service stage follows put nothing there
-serviced-of-longer : (e : Event) (p : Pool) → length (p .available) < length (own e p .pool .available) → serviced e ≡ true
-unfolding own abandon repin shut tellAll mode _>>_
+serviced-of-longer : (e : Event) (p : Pool) → length (p .available) < length (handle e p .pool .available) → serviced e ≡ true
+unfolding handle abandon repin shut tellAll enter _>>_
 serviced-of-longer (CheckOut n) p l = refl
 serviced-of-longer (WarmPool n) p l = refl
 serviced-of-longer (Abandon n) p l = absurd (omega arith)
@@ -117,7 +117,7 @@ unfolding puts offers
 puts-offers e p h = go (length (p .available) <? length (q .available)) refl (and-right (isReady (q .state)) _ h)
   where
     q : Pool
-    q = own e p .pool
+    q = handle e p .pool
 
     ready : isReady (q .state) ≡ true
     ready = and-left (isReady (q .state)) _ h

@@ -5,9 +5,9 @@ use mathlib.Core.Option.{none}
 use mathlib.Core.List.{List, [], _∷_, _++_, List·Memᴰ}
 use Prim.Native.Nat.{ℕ, suc, _+_, _*_, _≤_}
 use lib.ListN.{length}
-use Rattle.definition.specs.Pool.{Pool, fresh, most, withDefaults, withClock}
+use Rattle.definition.specs.Pool.{Pool, fresh, slotCount, withDefaults, withClock}
 use Rattle.definition.specs.Records.{Record, Replied, Pooled}
-use Rattle.definition.specs.Steps.{own, service}
+use Rattle.definition.specs.Steps.{handle, service}
 use Rattle.definition.specs.Refusals.{first, tests, Call, after, run, enoughRoom, Made, make}
 use Rattle.definition.specs.declared.Options.{Options}
 use Rattle.definition.specs.declared.Event.{Event}
@@ -30,7 +30,7 @@ standing i p = often i (numbers (p .available)) + often i (numbers (p .lent)) + 
 pub record Fresh (asked : Options) (p : Pool) : Type 0 where
   pub is-fresh : p ≡ fresh (withDefaults asked)
   pub ordered : p .options .minimum ≤ p .options .maximum
-  pub small : p .options .maximum ≤ most
+  pub small : p .options .maximum ≤ slotCount
 
 abbrev pub MadeFresh : Type 0
 MadeFresh = (asked : Options) (p : Pool) → make asked ≡ Made p → Fresh asked p
@@ -60,7 +60,7 @@ pub record Free (i : ℕ) (q : Pool) : Type 0 where
 abbrev pub HandsOutFree : Options → Type 0
 HandsOutFree o =
     (before : List Call) (e : Event) (now room : ℕ) → first (tests (poolAfter o before) (Good e now) room) ≡ none
-    → let q = own e (withClock (poolAfter o before) now) .pool in
+    → let q = handle e (withClock (poolAfter o before) now) .pool in
     (r i : ℕ) → List·Memᴰ (Replied r (Pooled i)) (service q .records) → Free i q
 
 -- (b) Requests: those accepted are those answered, in order of the log, and then those still waiting, front to back.

@@ -6,8 +6,8 @@ use Prim.Native.Nat.{ℕ, _+_, _≤_, _<_}
 use native.Mathlib.Omega.{arith}
 use borrow.Author.Tests.{leb-true, eqb-true, ne-eqb, eq-eqb}
 use Rattle.definition.specs.Words.{if_then_else_, _≤?_, _=?_}
-use Rattle.definition.specs.Pool.{Pool, fresh, most, withDefaults, inRange, withClock}
-use Rattle.definition.specs.Steps.{Out, _>>_, own}
+use Rattle.definition.specs.Pool.{Pool, fresh, slotCount, withDefaults, inRange, withClock}
+use Rattle.definition.specs.Steps.{Out, _>>_, handle}
 use Rattle.definition.specs.Refusals.{run, Call, Made, NotMade, make}
 use Rattle.definition.specs.declared.Options.{Options}
 use Rattle.definition.specs.declared.Refusal.the-variants.{OptionsOutOfRange}
@@ -16,7 +16,7 @@ use Rattle.promises.specs.Promises.{Fresh, MadeFresh, Connections, Hands
 use Rattle.definition.specs.Sentences.{pooled-was-available}
 use Rattle.promises.specs.Calls.{and-left, and-right, stepped}
 use Rattle.promises.specs.Flow.{run-flow, run-calms, fresh-calm}
-use Rattle.promises.specs.Kept.{run-rising, run-options, run-written}
+use Rattle.promises.specs.Keeps.{run-rising, run-options, run-written}
 use Rattle.promises.specs.Progress.{progress}
 use Rattle.promises.specs.Conserve.{held, Moves, conserved, run-moves, until-service-moves}
 use Rattle.promises.specs.Numbered.{Numbers, created-once, run-numbers, until-service-numbers}
@@ -25,10 +25,10 @@ use Rattle.promises.specs.Few.{service-closes, step-few}
 
 -- ── Made ───────────────────────────────────────────────────────────────────────────────────────────────────────────────
 
-in-range : (o : Options) → inRange o ≡ true → (o .minimum ≤ o .maximum) × (o .maximum ≤ most)
+in-range : (o : Options) → inRange o ≡ true → (o .minimum ≤ o .maximum) × (o .maximum ≤ slotCount)
 unfolding inRange
 in-range o h =
-    let most? = 1 ≤? o .maximum && o .maximum ≤? most in
+    let most? = 1 ≤? o .maximum && o .maximum ≤? slotCount in
     let fewest? = o .minimum ≤? o .maximum in
     let k = and-left (most? && fewest?) (1 ≤? o .connecting) (and-left (most? && fewest? && 1 ≤? o .connecting) _ h) in
     (leb-true _ _ (and-right most? fewest? k), leb-true _ _ (and-right (1 ≤? o .maximum) _ (and-left most? fewest? k)))
@@ -79,7 +79,7 @@ in-often (List·Memᴰ·tail m) = omega (arith, in-often m)
 pub hands-out-free : (o : Options) → HandsOutFree o
 unfolding _>>_
 hands-out-free o before e now room h r i m =
-    let out = (run before >> (λ q. own e (withClock q now))) (fresh o) in
+    let out = (run before >> (λ q. handle e (withClock q now))) (fresh o) in
     let b = balanced o out (until-service-moves before (fresh o) e now room h) (until-service-numbers before (fresh o) e now) i in
     let there = in-often (pooled-was-available (out .pool) r i m) in
     record { is-available = omega (arith, b .once, b .even); not-lent = omega (arith, b .once, b .even); not-pending = omega (arith, b .once, b .even) }
@@ -126,7 +126,7 @@ in-time o before call later n = progress (poolAfter o before) call later n (run-
 pub few-closed : FewClosed
 few-closed = service-closes
 
-pub few-records : (o : Options) → o .minimum ≤ o .maximum → o .maximum ≤ most → (before : List Call) (call : Call) → FewRecords o before call
+pub few-records : (o : Options) → o .minimum ≤ o .maximum → o .maximum ≤ slotCount → (before : List Call) (call : Call) → FewRecords o before call
 few-records o h k before call =
     let p = poolAfter o before in
     let reached = run-reached before (fresh o) (fresh-reached o h) in

@@ -5,7 +5,7 @@ use Prim.Native.Nat.{ℕ, _+_}
 use lib.ListN.{length}
 use Rattle.definition.specs.Words.{_<?_, any?}
 use Rattle.definition.specs.Pool.{Pool, Waiter, isReady, perished, withClock}
-use Rattle.definition.specs.Steps.{own, serviced, canService}
+use Rattle.definition.specs.Steps.{handle, serviced, canService}
 use Rattle.definition.specs.Refusals.{Result, Refused, Accepted, Call, step, after}
 use Rattle.definition.specs.declared.Event.{Event}
 use Rattle.definition.specs.declared.Event.the-variants.{CheckOut, WarmPool, Abandon, CheckIn, Clear, MarkAsReady, Succeeded, SucceededForPool, Failed, Maintenance, FillPool, Pin, ReturnToPinner, TakeFromPinner, Close}
@@ -65,7 +65,7 @@ givesBack q = canService q && frontAbandoned (q .waiting) && any? (λ c. not (pe
 -- background, or in the service stage, where that gives one back.
 unfoldable pub puts : Event → Pool → Bool
 puts e p =
-    let q = own e p .pool in
+    let q = handle e p .pool in
     isReady (q .state) && (length (p .available) <? length (q .available) || serviced e && givesBack q)
 
 -- the same of a frame, once it is accepted

@@ -7,7 +7,7 @@ use lib.ListN.{length}
 use native.Mathlib.Omega.{arith}
 use borrow.Author.Tests.{eqb-true}
 use Rattle.definition.specs.Words.{if_then_else_, _=?_}
-use Rattle.definition.specs.Pool.{Conn, has, find, without, turn}
+use Rattle.definition.specs.Pool.{Conn, has, find, without, setState}
 use Rattle.definition.specs.declared.ConnectionState.{ConnectionState}
 use Rattle.definition.specs.Log.{numbers, sumOf}
 use Rattle.definition.specs.Sentences.{if-both}
@@ -39,6 +39,6 @@ unfolding sumOf
 sum-without w n [] h = absurd (false≢true h)
 sum-without w n (c ∷ l) h = without-step w n c l (c .id =? n) refl h (λ k. sum-without w n l k)
 
-pub turn-numbers : (s : ConnectionState) (t n : ℕ) (l : List Conn) → numbers (turn s t n l) ≡ numbers l
+pub turn-numbers : (s : ConnectionState) (t n : ℕ) (l : List Conn) → numbers (setState s t n l) ≡ numbers l
 turn-numbers s t n [] = refl
 turn-numbers s t n (c ∷ l) = if-both (λ (x : List Conn). numbers x ≡ c .id ∷ numbers l) (λ h. refl) (λ h. ap (λ x. c .id ∷ x) (turn-numbers s t n l))

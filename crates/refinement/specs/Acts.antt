@@ -8,7 +8,7 @@ use lib.ListN.{getD, length-append}
 use Rattle.definition.specs.Laws.{find-id}
 use Rattle.definition.specs.Words.{if_then_else_}
 use Rattle.definition.specs.Pool as P
-use Rattle.definition.specs.Pool.{most, Pool, Conn, find, stateNo}
+use Rattle.definition.specs.Pool.{slotCount, Pool, Conn, find, stateNo}
 use Rattle.definition.specs.Records.{Record, ConnectionClosed}
 use Rattle.definition.specs.Steps as D
 use Rattle.definition.specs.Steps.{Out, Act, nothing, emit, _>>_}
@@ -23,10 +23,10 @@ use Rattle.slots.specs.View.{SlotPool, Slot}
 use Rattle.slots.specs.Slots as S
 use Rattle.slots.specs.Slots.{vacant}
 use Rattle.refinement.specs.Table.{Fresh, cell, has-it, one, one-pos, one-zero, taken-put}
-use Rattle.refinement.specs.Kept.{isLent, isPending, kept-put, unlisted, same, into, inIds}
+use Rattle.refinement.specs.Mirror.{isLent, isPending, mirror-put, unlisted, same, into, inIds}
 use Rattle.refinement.specs.Stands.{Alike, Stands, Same}
 use Rattle.refinement.specs.Order.{place-vacant}
-use Rattle.refinement.specs.Transit.{Off, seen, off-lent, off-pending, turn-lent, onto-nothing, onto-lent, onto-back}
+use Rattle.refinement.specs.Transit.{Off, seen, off-lent, off-pending, set-lent, onto-nothing, onto-lent, onto-back}
 
 -- ── One act after another ──────────────────────────────────────────────────────────────────────────────────────────────
 
@@ -81,19 +81,19 @@ Is p i x = (x .id ≡ S.idAt p i) × (x .generation ≡ S.slotAt p i .generation
 pub shelve-same : (i t : ℕ) (x : Conn) (p : SlotPool) (m : Pool) → Transit p m i → Is p i x → Same (S.shelve i t p) (D.shelve x t m)
 unfolding S.shelve D.shelve
 shelve-same i t x p m tr is =
-    let s : Slot = S.turned 1 t (S.slotAt p i) in
-    let e : P.turned CheckedIn t x ≡ record { id = S.idAt p i; generation = s .generation; time = s .time; state = CheckedIn } = rw (is .0, is .1) in
-    record { records = refl; stands = record { alike = alike-table (tr .alike); table = onto-back (tr .off) s (P.turned CheckedIn t x) refl e } }
+    let s : Slot = S.withState 1 t (S.slotAt p i) in
+    let e : P.withState CheckedIn t x ≡ record { id = S.idAt p i; generation = s .generation; time = s .time; state = CheckedIn } = rw (is .0, is .1) in
+    record { records = refl; stands = record { alike = alike-table (tr .alike); table = onto-back (tr .off) s (P.withState CheckedIn t x) refl e } }
 
-pub lendOut-same : (i : ℕ) (x : Conn) (p : SlotPool) (m : Pool) → Transit p m i → Is p i x → Same (S.turnAt S.checkedOutNo i p) (D.lendOut x m)
-unfolding S.turnAt D.lendOut
+pub lendOut-same : (i : ℕ) (x : Conn) (p : SlotPool) (m : Pool) → Transit p m i → Is p i x → Same (S.setStateAt S.checkedOutNo i p) (D.lendOut x m)
+unfolding S.setStateAt D.lendOut
 lendOut-same i x p m tr is =
-    let s : Slot = S.turned 2 (p .clock) (S.slotAt p i) in
-    let e : cell (P.turned CheckedOut (m .clock) x) ≡ s = rw (is .1, tr .alike .clock) in
-    record { records = refl; stands = record { alike = alike-table (tr .alike); table = onto-lent (tr .off) s (P.turned CheckedOut (m .clock) x) refl (is .0) e } }
+    let s : Slot = S.withState 2 (p .clock) (S.slotAt p i) in
+    let e : cell (P.withState CheckedOut (m .clock) x) ≡ s = rw (is .1, tr .alike .clock) in
+    record { records = refl; stands = record { alike = alike-table (tr .alike); table = onto-lent (tr .off) s (P.withState CheckedOut (m .clock) x) refl (is .0) e } }
 
 -- a lent connection, a pending one: it leaves its list
-module _ {p : SlotPool} {m : Pool} (st : Stands p m) (i : ℕ) (low : i < most) where
+module _ {p : SlotPool} {m : Pool} (st : Stands p m) (i : ℕ) (low : i < slotCount) where
   abbrev n : ℕ
   n = S.idAt p i
 
@@ -103,16 +103,16 @@ module _ {p : SlotPool} {m : Pool} (st : Stands p m) (i : ℕ) (low : i < most) 
     lent-transit = record { alike = alike-table (st .alike); off = off-lent (st .table) i low h }
 
     pub lent-cell : (P.has n (m .lent) ≡ true) × (cell (find n (m .lent)) ≡ S.slotAt p i)
-    lent-cell = has-it n (m .lent) (S.slotAt p i) (seen (st .table) i low isLent refl h (st .table .kept .lent))
+    lent-cell = has-it n (m .lent) (S.slotAt p i) (seen (st .table) i low isLent refl h (st .table .mirror .lent))
 
     pub lent-is : Is p i (find n (m .lent))
     lent-is = (find-id n (m .lent), ap (λ (x : Slot). x .generation) (lent-cell .1))
 
-    pub repin-same : (q : ConnectionState) → isLent (stateNo q) ≡ true → Same (S.turnAt (stateNo q) i p) (D.repin q n m)
-    unfolding S.turnAt D.repin
+    pub repin-same : (q : ConnectionState) → isLent (stateNo q) ≡ true → Same (S.setStateAt (stateNo q) i p) (D.repin q n m)
+    unfolding S.setStateAt D.repin
     repin-same q hq = record {
       records = refl;
-      stands = record { alike = alike-table (st .alike); table = rw (← st .alike .clock) (turn-lent (st .table) i low q (p .clock) hq h) };
+      stands = record { alike = alike-table (st .alike); table = rw (← st .alike .clock) (set-lent (st .table) i low q (p .clock) hq h) };
     }
 
   module _ (h : isPending (S.slotAt p i .state) ≡ true) where
@@ -121,16 +121,16 @@ module _ {p : SlotPool} {m : Pool} (st : Stands p m) (i : ℕ) (low : i < most) 
     pending-transit = record { alike = alike-table (st .alike); off = off-pending (st .table) i low h }
 
     pub pending-cell : (P.has n (m .pending) ≡ true) × (cell (find n (m .pending)) ≡ S.slotAt p i)
-    pending-cell = has-it n (m .pending) (S.slotAt p i) (seen (st .table) i low isPending refl h (st .table .kept .pending))
+    pending-cell = has-it n (m .pending) (S.slotAt p i) (seen (st .table) i low isPending refl h (st .table .mirror .pending))
 
     pub pending-is : Is p i (find n (m .pending))
     pending-is = (find-id n (m .pending), ap (λ (x : Slot). x .generation) (pending-cell .1))
 
 -- ── Created ────────────────────────────────────────────────────────────────────────────────────────────────────────────
 
-pub vacancy : {p : SlotPool} {m : Pool} → Stands p m → p .total < most → place 0 most (p .ids) < most
+pub vacancy : {p : SlotPool} {m : Pool} → Stands p m → p .total < slotCount → place 0 slotCount (p .ids) < slotCount
 vacancy {p} st h =
-    let l = st .table .kept .longIds in
+    let l = st .table .mirror .longIds in
     rw l at (place-vacant (p .ids) (omega (arith, st .table .holds)))
 
 -- the number of what a connection is pending for
@@ -149,18 +149,18 @@ used-no : (why : Purpose) → (0 < pendingNo why) × (pendingNo why ≤ 6)
 used-no Request = omega arith
 used-no Background = omega arith
 
-pub create-same : (why : Purpose) (p : SlotPool) (m : Pool) → Stands p m → p .total < most → Same (S.createPendingConnection (pendingNo why) p) (D.createPendingConnection why m)
+pub create-same : (why : Purpose) (p : SlotPool) (m : Pool) → Stands p m → p .total < slotCount → Same (S.createPendingConnection (pendingNo why) p) (D.createPendingConnection why m)
 unfolding S.createPendingConnection D.createPendingConnection _>>_
 create-same why p m st h =
-    let low : place 0 most (p .ids) < most = vacancy st h in
+    let low : place 0 slotCount (p .ids) < slotCount = vacancy st h in
     let tb = st .table in
-    let k = tb .kept in
-    let i = place 0 most (p .ids) in
+    let k = tb .mirror in
+    let i = place 0 slotCount (p .ids) in
     let n = p .nextId in
     let s : Slot = record { generation = p .generation; time = p .clock; state = pendingNo why } in
     let x : Conn = record { id = m .nextId; generation = m .generation; time = m .clock; state = Pending why } in
     let e : cell x ≡ s = rw (st .alike .generation, st .alike .clock) in
-    let z : getD (p .ids) i 0 ≡ 0 = place-found (λ v. v) 0 most (p .ids) low in
+    let z : getD (p .ids) i 0 ≡ 0 = place-found (λ v. v) 0 slotCount (p .ids) low in
     let b : getD (p .slots) i vacant ≡ vacant = k .blank i z in
     let b0 : getD (p .slots) i vacant .state ≡ 0 = ap (λ (y : Slot). y .state) b in
     let fr : Fresh (p .ids) i n = λ j a q e. absurd (omega (arith, k .below j, e)) in
@@ -171,7 +171,7 @@ create-same why p m st h =
       stands = record {
         alike = record { options = st .alike .options; state = st .alike .state; generation = st .alike .generation; nextId = ap (λ (y : ℕ). y + 1) (st .alike .nextId); clock = st .alike .clock; lastRequest = st .alike .lastRequest; serial = st .alike .serial; limits = st .alike .limits; queue = st .alike .queue };
         table = record {
-          kept = kept-put k i low n s (n + 1) (unlisted k i low (λ q. omega arith)) fr (λ q. absurd (omega arith)) (λ _. used-no why) (omega arith) (omega arith)
+          mirror = mirror-put k i low n s (n + 1) (unlisted k i low (λ q. omega arith)) fr (λ q. absurd (omega arith)) (λ _. used-no why) (omega arith) (omega arith)
               (same k i low isLent n s fr (k .lent) (λ q. absurd (omega arith)) (λ _. not-lent-no why))
               (into k i low isPending n s fr (k .pending) x (sym (st .alike .nextId)) e zn (λ q. absurd (omega arith)) (pending-no why));
           room = tb .room;

@@ -7,11 +7,11 @@ use Prim.Native.Nat.{ℕ, _<_}
 use native.Mathlib.Omega.{arith}
 use lib.ListN.{length, getD, set}
 use Rattle.definition.specs.Words.{if_then_else_, _∷ʳ_}
-use Rattle.definition.specs.Pool.{Conn, without, turn, stateNo}
+use Rattle.definition.specs.Pool.{Conn, without, setState, stateNo}
 use Rattle.definition.specs.declared.ConnectionState.{ConnectionState}
 use Rattle.slots.specs.View.{Slot}
-use Rattle.slots.specs.Slots.{vacant, turned}
-use Rattle.refinement.specs.Table.{look, Unique, Fresh, by-eq, look-other, look-at, look-none, look-put-new, look-put-old, cell, lookup, Once, lookup-other, lookup-gone, once-without, lookup-snoc-new, lookup-snoc-other, once-snoc, lookup-turn, lookup-turn-other, once-turn}
+use Rattle.slots.specs.Slots.{vacant, withState}
+use Rattle.refinement.specs.Table.{look, Unique, Fresh, by-eq, look-other, look-at, look-none, look-put-new, look-put-old, cell, lookup, Once, lookup-other, lookup-gone, once-without, lookup-snoc-new, lookup-snoc-other, once-snoc, lookup-set, lookup-set-other, once-set}
 
 -- of the numbers of states
 abbrev pub Class : Type 0
@@ -99,16 +99,16 @@ module _ (t : Class) (xs : List ℕ) (ss : List Slot) (i v : ℕ) (s : Slot) (le
       }
 
 -- slot i is of the class before and after, and is turned
-pub agrees-turn : (t : Class) (xs : List ℕ) (ss : List Slot) (i : ℕ) (q : ConnectionState) (c : ℕ) (len : length ss ≡ length xs) (h : i < length xs) (u : Unique xs) (f : Fresh xs i (getD xs i 0)) {l : List Conn}
-    → 0 < getD xs i 0 → t (getD ss i vacant .state) ≡ true → t (stateNo q) ≡ true → Agrees t xs ss l → Agrees t (set xs i (getD xs i 0)) (set ss i (turned (stateNo q) c (getD ss i vacant))) (turn q c (getD xs i 0) l)
-agrees-turn t xs ss i q c len h u f {l} z b n a =
+pub agrees-set : (t : Class) (xs : List ℕ) (ss : List Slot) (i : ℕ) (q : ConnectionState) (c : ℕ) (len : length ss ≡ length xs) (h : i < length xs) (u : Unique xs) (f : Fresh xs i (getD xs i 0)) {l : List Conn}
+    → 0 < getD xs i 0 → t (getD ss i vacant .state) ≡ true → t (stateNo q) ≡ true → Agrees t xs ss l → Agrees t (set xs i (getD xs i 0)) (set ss i (withState (stateNo q) c (getD ss i vacant))) (setState q c (getD xs i 0) l)
+agrees-set t xs ss i q c len h u f {l} z b n a =
     let x = getD xs i 0 in
     let s = getD ss i vacant in
     let there : lookup x l ≡ some s = sym (a .finds x z) ∙ ap (only t) (look-at x i xs ss len u h z refl) ∙ only-in t s b in
     record {
-      once = once-turn q c x l (a .once);
-      named = lookup-turn-other q c x 0 l (λ e. omega arith) ∙ a .named;
+      once = once-set q c x l (a .once);
+      named = lookup-set-other q c x 0 l (λ e. omega arith) ∙ a .named;
       finds = λ k zk. by-eq x k
-          (λ e. now-new t xs ss i x (turned (stateNo q) c s) len h u f k zk e ∙ only-in t (turned (stateNo q) c s) n ∙ sym (lookup-turn q c x l s there) ∙ ap (λ (y : ℕ). lookup y (turn q c x l)) e)
-          (λ e. ap (only t) (look-other k i x (turned (stateNo q) c s) xs ss e e) ∙ a .finds k zk ∙ sym (lookup-turn-other q c x k l (λ d. e (sym d))));
+          (λ e. now-new t xs ss i x (withState (stateNo q) c s) len h u f k zk e ∙ only-in t (withState (stateNo q) c s) n ∙ sym (lookup-set q c x l s there) ∙ ap (λ (y : ℕ). lookup y (setState q c x l)) e)
+          (λ e. ap (only t) (look-other k i x (withState (stateNo q) c s) xs ss e e) ∙ a .finds k zk ∙ sym (lookup-set-other q c x k l (λ d. e (sym d))));
     }

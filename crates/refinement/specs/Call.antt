@@ -98,7 +98,7 @@ takes p m l e now st f =
 
 -- by the first test that holds
 judged-same : (p : SlotPool) (m : Pool) (l : List ℕ) (e : Event) (now : ℕ) (x y : Option Refusal) → Stands p m → first (C.tests p e now) ≡ x → x ≡ y
-    → Refines p l (C.judged p l e now (C.orAt (target p e) x)) (R.verdict y (R.outcome (Good e now) m))
+    → Refines p l (C.judged p l e now (C.orAccept (target p e) x)) (R.verdict y (R.outcome (Good e now) m))
 unfolding R.outcome
 judged-same p m l e now none none st h q = accepted p l _ _ (takes p m l e now st (tests-passed st e now h .fit))
 judged-same p m l e now (some r) (some r') st h q =

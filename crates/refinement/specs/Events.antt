@@ -3,7 +3,7 @@ use mathlib.Core.Path.{_≡_, refl, subst}
 use mathlib.Core.Bool.{true, false}
 use Prim.Native.Nat.{ℕ, _/_, _%_, _<_}
 use lib.ListN.{getD}
-use Rattle.definition.specs.Pool.{most, Pool, queueLength}
+use Rattle.definition.specs.Pool.{slotCount, Pool, queueLength}
 use Rattle.definition.specs.Steps as D
 use Rattle.definition.specs.Steps.{Out}
 use Rattle.definition.specs.declared.Event.{Event}
@@ -13,16 +13,16 @@ use Rattle.definition.specs.declared.PinnedState.the-variants.{InUse, Returned}
 use Rattle.slots.specs.View.{SlotPool}
 use Rattle.slots.specs.Slots as S
 use Rattle.refinement.specs.Agree.{Class}
-use Rattle.refinement.specs.Kept.{isLent, isPending}
+use Rattle.refinement.specs.Mirror.{isLent, isPending}
 use Rattle.refinement.specs.Stands.{Stands, Same}
 use Rattle.refinement.specs.Acts.{same-nothing, same-then, same-if, repin-same}
-use Rattle.refinement.specs.Own.{request-same, abandon-same, clear-same, markAsReady-same, checkIn-same, succeeded-same, succeededForPool-same, failed-same}
+use Rattle.refinement.specs.Handle.{request-same, abandon-same, clear-same, markAsReady-same, checkIn-same, succeeded-same, succeededForPool-same, failed-same}
 use Rattle.refinement.specs.Walks.{maintenance-same, shut-same}
 use Rattle.refinement.specs.Service.{service-same}
 
 -- slot i holds the connection n, in a state of the class
 pub record Holds (t : Class) (n : ℕ) (p : SlotPool) (i : ℕ) : Type 0 where
-  pub slot : i < most
+  pub slot : i < slotCount
   pub id : S.idAt p i ≡ n
   pub state : t (S.slotAt p i .state) ≡ true
 
@@ -59,29 +59,29 @@ Fit Close p i = Unit {0}
 by-id : {p : SlotPool} {t : Class} {n i : ℕ} {o : Out SlotPool} {m : Pool} (a : ℕ → D.Act Pool) → Holds t n p i → Same o (a (S.idAt p i) m) → Same o (a n m)
 by-id {o = o} {m = m} a at h = subst (λ (x : ℕ). Same o (a x m)) (at .id) h
 
-pub own-same : (e : Event) (i : ℕ) (p : SlotPool) (m : Pool) → Stands p m → Fit e p i → Same (S.own e i p) (D.own e m)
-unfolding S.own D.own
-own-same (CheckOut n) i p m st f = request-same n false p m st (f .later) (f .room)
-own-same (WarmPool n) i p m st f = request-same n true p m st (f .later) (f .room)
-own-same (Abandon n) i p m st f = abandon-same i n p m st (f .place) (f .id) (f .heard)
-own-same (CheckIn n errored executing letGo) i p m st f = by-id (λ x. D.checkIn x errored executing letGo) f (checkIn-same i p m st (f .slot) errored executing letGo (f .state))
-own-same (Clear timeout cause) i p m st f = clear-same timeout cause p m st
-own-same MarkAsReady i p m st f = markAsReady-same p m st
-own-same (Succeeded n) i p m st f = by-id D.succeeded f (succeeded-same i p m st (f .slot) (f .state))
-own-same (SucceededForPool n opened) i p m st f = by-id (λ x. D.succeededForPool x opened) f (succeededForPool-same i p m st (f .slot) (f .state) opened)
-own-same (Failed n) i p m st f = by-id D.failed f (failed-same i p m st (f .slot) (f .state))
-own-same Maintenance i p m st f = maintenance-same p m st
-own-same FillPool i p m st f = same-nothing st
-own-same (Pin n) i p m st f = by-id (D.repin (Pinned InUse)) f (repin-same st i (f .slot) (f .state) (Pinned InUse) refl)
-own-same (ReturnToPinner n) i p m st f = by-id (D.repin (Pinned Returned)) f (repin-same st i (f .slot) (f .state) (Pinned Returned) refl)
-own-same (TakeFromPinner n) i p m st f = by-id (D.repin (Pinned InUse)) f (repin-same st i (f .slot) (f .state) (Pinned InUse) refl)
-own-same Close i p m st f = shut-same p m st
+pub handle-same : (e : Event) (i : ℕ) (p : SlotPool) (m : Pool) → Stands p m → Fit e p i → Same (S.handle e i p) (D.handle e m)
+unfolding S.handle D.handle
+handle-same (CheckOut n) i p m st f = request-same n false p m st (f .later) (f .room)
+handle-same (WarmPool n) i p m st f = request-same n true p m st (f .later) (f .room)
+handle-same (Abandon n) i p m st f = abandon-same i n p m st (f .place) (f .id) (f .heard)
+handle-same (CheckIn n errored executing letGo) i p m st f = by-id (λ x. D.checkIn x errored executing letGo) f (checkIn-same i p m st (f .slot) errored executing letGo (f .state))
+handle-same (Clear timeout cause) i p m st f = clear-same timeout cause p m st
+handle-same MarkAsReady i p m st f = markAsReady-same p m st
+handle-same (Succeeded n) i p m st f = by-id D.succeeded f (succeeded-same i p m st (f .slot) (f .state))
+handle-same (SucceededForPool n opened) i p m st f = by-id (λ x. D.succeededForPool x opened) f (succeededForPool-same i p m st (f .slot) (f .state) opened)
+handle-same (Failed n) i p m st f = by-id D.failed f (failed-same i p m st (f .slot) (f .state))
+handle-same Maintenance i p m st f = maintenance-same p m st
+handle-same FillPool i p m st f = same-nothing st
+handle-same (Pin n) i p m st f = by-id (D.repin (Pinned InUse)) f (repin-same st i (f .slot) (f .state) (Pinned InUse) refl)
+handle-same (ReturnToPinner n) i p m st f = by-id (D.repin (Pinned Returned)) f (repin-same st i (f .slot) (f .state) (Pinned Returned) refl)
+handle-same (TakeFromPinner n) i p m st f = by-id (D.repin (Pinned InUse)) f (repin-same st i (f .slot) (f .state) (Pinned InUse) refl)
+handle-same Close i p m st f = shut-same p m st
 
 pub event-same : (e : Event) (i : ℕ) (p : SlotPool) (m : Pool) → Stands p m → Fit e p i → Same (S.event e i p) (D.event e m)
 unfolding S.event D.event
 event-same e i p m st f =
-    let o = own-same e i p m st f in
-    same-then (S.own e i) _ (D.own e) _ p m o
+    let o = handle-same e i p m st f in
+    same-then (S.handle e i) _ (D.handle e) _ p m o
     (same-if _ _ _ _ _ _ refl (λ _. service-same _ _ (o .stands)) (λ _. same-nothing (o .stands)))
 
 -- the clock does not matter to it

@@ -6,7 +6,7 @@ use Prim.Native.Nat.{ℕ, zero, suc, _+_, _≤_, _*_}
 use native.Mathlib.Omega.{arith}
 use lib.ListN.{length, length-append, length-map, length-take}
 use Rattle.definition.specs.Words.{if_then_else_}
-use Rattle.definition.specs.Pool.{queueLength, most, Pool}
+use Rattle.definition.specs.Pool.{queueLength, slotCount, Pool}
 use Rattle.definition.specs.Records.{Record, Reply, Gone}
 use Rattle.definition.specs.Steps.{Out, Act, emit, become, _>>_}
 use Rattle.definition.specs.Refusals.{enoughRoom}
@@ -19,7 +19,7 @@ use Rattle.slots.specs.Slots as S
 use Rattle.slots.specs.Done.{Room}
 use Rattle.refinement.specs.Stands.{Stands}
 use Rattle.refinement.specs.Walks.{removePerished-same, closeFront-same}
-use Rattle.refinement.specs.Events.{Fit, own-same}
+use Rattle.refinement.specs.Events.{Fit, handle-same}
 
 pub record Few (k : ℕ) (o : Out SlotPool) : Type 0 where
   pub records : length (o .records) ≤ k
@@ -50,17 +50,17 @@ pub shelve-few : (k i t : ℕ) (p : SlotPool) → Few k (S.shelve i t p)
 unfolding S.shelve
 shelve-few k i t p = record { records = omega arith }
 
-pub turnAt-few : (k s i : ℕ) (p : SlotPool) → Few k (S.turnAt s i p)
-unfolding S.turnAt
-turnAt-few k s i p = record { records = omega arith }
+pub setStateAt-few : (k s i : ℕ) (p : SlotPool) → Few k (S.setStateAt s i p)
+unfolding S.setStateAt
+setStateAt-few k s i p = record { records = omega arith }
 
 leavePending-few : (p : SlotPool) → Few 0 (S.leavePending p)
 unfolding S.leavePending
 leavePending-few p = record { records = omega arith }
 
-mode-few : (q : PoolState) (g : ℕ) (p : SlotPool) → Few 0 (S.mode q g p)
-unfolding S.mode
-mode-few q g p = record { records = omega arith }
+enter-few : (q : PoolState) (g : ℕ) (p : SlotPool) → Few 0 (S.enter q g p)
+unfolding S.enter
+enter-few q g p = record { records = omega arith }
 
 pub create-few : (k : ℕ) (p : SlotPool) → Few 1 (S.createPendingConnection k p)
 unfolding S.createPendingConnection _>>_
@@ -129,7 +129,7 @@ checkInAt-few i errored executing t p =
 
 succeededAt-few : (i : ℕ) (p : SlotPool) → Few 1 (S.succeededAt i p)
 unfolding S.succeededAt
-succeededAt-few i p = few-then 1 0 (emit _) _ p (few-said 1 p (omega arith)) (few-then 0 0 S.leavePending _ p (leavePending-few p) (turnAt-few 0 2 i _))
+succeededAt-few i p = few-then 1 0 (emit _) _ p (few-said 1 p (omega arith)) (few-then 0 0 S.leavePending _ p (leavePending-few p) (setStateAt-few 0 2 i _))
 
 succeededForPoolAt-few : (i opened : ℕ) (p : SlotPool) → Few 2 (S.succeededForPoolAt i opened p)
 unfolding S.succeededForPoolAt
@@ -142,7 +142,7 @@ failedAt-few i p = few-then 0 1 S.leavePending _ p (leavePending-few p) (closeAt
 
 markAsReady-few : (p : SlotPool) → Few 1 (S.markAsReady p)
 unfolding S.markAsReady
-markAsReady-few p = few-if _ _ _ p (few-said 1 p (omega arith)) (few-then 1 0 (emit _) (S.mode _ _) p (few-said 1 p (omega arith)) (mode-few _ _ _))
+markAsReady-few p = few-if _ _ _ p (few-said 1 p (omega arith)) (few-then 1 0 (emit _) (S.enter _ _) p (few-said 1 p (omega arith)) (enter-few _ _ _))
 
 interrupted-few : (timeout : Bool) (p : SlotPool) → Few 1 (S.interrupted timeout p) × (S.interrupted timeout p .pool ≡ p)
 unfolding S.interrupted if_then_else_
@@ -160,45 +160,45 @@ clear-few timeout cause p =
     let w : S.interrupted timeout p .pool .waitings ≡ p .waitings = ap (λ (q : SlotPool). q .waitings) (i .1) in
     let c : Few (1 + p .waitings) (S.clearedReady timeout cause (S.interrupted timeout p .pool)) = few-more _ _ (omega (arith, w)) (clearedReady-few timeout cause (S.interrupted timeout p .pool)) in
     few-more (1 + (1 + p .waitings + 0)) (2 + p .waitings) (omega arith)
-    (few-then 1 (1 + p .waitings + 0) (S.interrupted timeout) _ p (i .0) (few-then (1 + p .waitings) 0 (S.clearedReady timeout cause) (S.mode _ _) _ c (mode-few _ _ _)))
+    (few-then 1 (1 + p .waitings + 0) (S.interrupted timeout) _ p (i .0) (few-then (1 + p .waitings) 0 (S.clearedReady timeout cause) (S.enter _ _) _ c (enter-few _ _ _)))
 
 module _ {p : SlotPool} {m : Pool} (st : Stands p m) where
-  pub maintenance-few : Few (2 * most) (S.maintenance p)
+  pub maintenance-few : Few (2 * slotCount) (S.maintenance p)
   unfolding S.maintenance S.removePerished S.ensureMinConnections
   maintenance-few =
       let q = removePerished-same p m st .stands in
-      few-then most most S.removePerished S.ensureMinConnections p (few-more (p .availables) most (st .table .fits) (prune-few (p .availables) p))
-      (few-if _ _ _ _ (few-more _ most (omega (arith, q .alike .limits)) (fillUp-few _ _)) (few-said most _ (omega arith)))
+      few-then slotCount slotCount S.removePerished S.ensureMinConnections p (few-more (p .availables) slotCount (st .table .fits) (prune-few (p .availables) p))
+      (few-if _ _ _ _ (few-more _ slotCount (omega (arith, q .alike .limits)) (fillUp-few _ _)) (few-said slotCount _ (omega arith)))
 
   pub shut-few : Few 321 (S.shut p)
   unfolding S.shut
   shut-few =
       let q = closeFront-same (p .availables) (m .available) p m st refl refl .stands in
-      few-then most 257 (S.closeFront (p .availables)) _ p (few-more (p .availables) most (st .table .fits) (closeFront-few (p .availables) p))
+      few-then slotCount 257 (S.closeFront (p .availables)) _ p (few-more (p .availables) slotCount (st .table .fits) (closeFront-few (p .availables) p))
       (few-then queueLength 1 (S.tellAll Gone) _ _ (few-more _ queueLength (q .alike .queue .fits) (tellAll-few Gone _))
-      (few-then 1 0 (emit _) (S.mode _ _) _ (few-said 1 _ (omega arith)) (mode-few _ _ _)))
+      (few-then 1 0 (emit _) (S.enter _ _) _ (few-said 1 _ (omega arith)) (enter-few _ _ _)))
 
-  pub own-few : (e : Event) (i : ℕ) → Few 321 (S.own e i p)
-  unfolding S.own
-  own-few (CheckOut n) i = few-more _ 321 (omega (arith, st .alike .queue .fits)) (request-few n false p)
-  own-few (WarmPool n) i = few-more _ 321 (omega (arith, st .alike .queue .fits)) (request-few n true p)
-  own-few (Abandon n) i = few-more _ 321 (omega (arith, st .alike .queue .fits)) (abandonAt-few i p)
-  own-few (CheckIn n errored executing letGo) i = few-more _ 321 (omega (arith, st .alike .queue .fits)) (checkInAt-few i errored executing letGo p)
-  own-few (Clear timeout cause) i = few-more _ 321 (omega (arith, st .alike .queue .fits)) (clear-few timeout cause p)
-  own-few MarkAsReady i = few-more _ 321 (omega (arith, st .alike .queue .fits)) (markAsReady-few p)
-  own-few (Succeeded n) i = few-more _ 321 (omega (arith, st .alike .queue .fits)) (succeededAt-few i p)
-  own-few (SucceededForPool n opened) i = few-more _ 321 (omega (arith, st .alike .queue .fits)) (succeededForPoolAt-few i opened p)
-  own-few (Failed n) i = few-more _ 321 (omega (arith, st .alike .queue .fits)) (failedAt-few i p)
-  own-few Maintenance i = few-more _ 321 (omega (arith, st .alike .queue .fits)) (maintenance-few)
-  own-few FillPool i = few-said 321 p (omega arith)
-  own-few (Pin n) i = turnAt-few 321 S.inUseNo i p
-  own-few (ReturnToPinner n) i = turnAt-few 321 S.returnedNo i p
-  own-few (TakeFromPinner n) i = turnAt-few 321 S.inUseNo i p
-  own-few Close i = shut-few
+  pub handle-few : (e : Event) (i : ℕ) → Few 321 (S.handle e i p)
+  unfolding S.handle
+  handle-few (CheckOut n) i = few-more _ 321 (omega (arith, st .alike .queue .fits)) (request-few n false p)
+  handle-few (WarmPool n) i = few-more _ 321 (omega (arith, st .alike .queue .fits)) (request-few n true p)
+  handle-few (Abandon n) i = few-more _ 321 (omega (arith, st .alike .queue .fits)) (abandonAt-few i p)
+  handle-few (CheckIn n errored executing letGo) i = few-more _ 321 (omega (arith, st .alike .queue .fits)) (checkInAt-few i errored executing letGo p)
+  handle-few (Clear timeout cause) i = few-more _ 321 (omega (arith, st .alike .queue .fits)) (clear-few timeout cause p)
+  handle-few MarkAsReady i = few-more _ 321 (omega (arith, st .alike .queue .fits)) (markAsReady-few p)
+  handle-few (Succeeded n) i = few-more _ 321 (omega (arith, st .alike .queue .fits)) (succeededAt-few i p)
+  handle-few (SucceededForPool n opened) i = few-more _ 321 (omega (arith, st .alike .queue .fits)) (succeededForPoolAt-few i opened p)
+  handle-few (Failed n) i = few-more _ 321 (omega (arith, st .alike .queue .fits)) (failedAt-few i p)
+  handle-few Maintenance i = few-more _ 321 (omega (arith, st .alike .queue .fits)) (maintenance-few)
+  handle-few FillPool i = few-said 321 p (omega arith)
+  handle-few (Pin n) i = setStateAt-few 321 S.inUseNo i p
+  handle-few (ReturnToPinner n) i = setStateAt-few 321 S.returnedNo i p
+  handle-few (TakeFromPinner n) i = setStateAt-few 321 S.inUseNo i p
+  handle-few Close i = shut-few
 
 -- after the event's own act there is room for the service stage, in any output that is long enough
 pub room-after : (e : Event) (i : ℕ) (p : SlotPool) (m : Pool) (l : List ℕ) → Stands p m → Fit e p i → enoughRoom ≤ length l
-    → Room (S.own e i p .pool .availables + 2) (length (S.own e i p .records)) l
+    → Room (S.handle e i p .pool .availables + 2) (length (S.handle e i p .records)) l
 room-after e i p m l st f h =
-    let q = own-same e i p m st f .stands in
-    (omega (arith, own-few st e i .records, q .table .fits), omega (arith, own-few st e i .records, q .table .fits))
+    let q = handle-same e i p m st f .stands in
+    (omega (arith, handle-few st e i .records, q .table .fits), omega (arith, handle-few st e i .records, q .table .fits))

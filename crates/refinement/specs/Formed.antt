@@ -9,7 +9,7 @@ use native.Mathlib.Omega.{arith}
 use lib.ListN.{length, getD, replicate, length-replicate, length-append}
 use borrow.Author.Tests.{ltb-false, leb-true}
 use Rattle.definition.specs.Words.{if_then_else_, _<?_, _≤?_, _=?_}
-use Rattle.definition.specs.Pool.{queueLength, Pool, fresh, inRange, most, isClosed}
+use Rattle.definition.specs.Pool.{queueLength, Pool, fresh, inRange, slotCount, isClosed}
 use Rattle.definition.specs.Steps.{_>>_, kindNo}
 use Rattle.definition.specs.Refusals as R
 use Rattle.definition.specs.Refusals.{first, enoughRoom, lastNextId, takenAfterClose, after, run}
@@ -32,7 +32,7 @@ use Rattle.slots.specs.declared.Outcome.{Outcome}
 use Rattle.slots.specs.declared.Outcome.the-variants.{Refused, Accepted}
 use Rattle.refinement.specs.Table.{by-bool, and-both, look-none, lookup, one-zero}
 use Rattle.refinement.specs.Agree.{Class, Agrees, only, only-none}
-use Rattle.refinement.specs.Kept.{isLent, isPending}
+use Rattle.refinement.specs.Mirror.{isLent, isPending}
 use Rattle.refinement.specs.Stands.{Limits, Stands, Formed}
 use Rattle.refinement.specs.Tests.{Passed, tests-passed}
 use Rattle.refinement.specs.Leaves.{news-most, event-leaves, closed-leaves, close-leaves}
@@ -54,9 +54,9 @@ freshSlots o = record {
   pendings = 0;
   availables = 0;
   waitings = 0;
-  ids = replicate most 0;
-  slots = replicate most vacant;
-  available = replicate most 0;
+  ids = replicate slotCount 0;
+  slots = replicate slotCount vacant;
+  available = replicate slotCount 0;
   waiters = replicate queueLength 0;
 }
 
@@ -64,7 +64,7 @@ freshSlots o = record {
 abbrev pub freshHead : Options → Head
 freshHead o = record {
   options = o;
-  mode = record { state = New; generation = 0 };
+  status = record { state = New; generation = 0 };
   «next_connection_id» = 1;
   clock = 0;
   «last_request» = 0;
@@ -77,7 +77,7 @@ freshHead o = record {
 
 -- a head over columns all of 0
 abbrev pub overBlank : Head → SlotPool
-overBlank h = poolOf h (replicate (2 * most) 0) (replicate most 0) (replicate (2 * most) 0) (replicate queueLength 0)
+overBlank h = poolOf h (replicate (2 * slotCount) 0) (replicate slotCount 0) (replicate (2 * slotCount) 0) (replicate queueLength 0)
 
 pub fresh-parts : (o : Options) → overBlank (freshHead o) ≡ freshSlots o
 unfolding rows
@@ -86,10 +86,10 @@ fresh-parts o = refl
 pub limits-of : (o : Options) → inRange o ≡ true → Limits o
 unfolding inRange
 limits-of o h =
-    let d = and-both _ (o .connecting ≤? most) h in
+    let d = and-both _ (o .connecting ≤? slotCount) h in
     let c = and-both _ (1 ≤? o .connecting) (d .0) in
     let b = and-both _ (o .minimum ≤? o .maximum) (c .0) in
-    let a = and-both (1 ≤? o .maximum) (o .maximum ≤? most) (b .0) in
+    let a = and-both (1 ≤? o .maximum) (o .maximum ≤? slotCount) (b .0) in
     record { one = leb-true _ _ (a .0); maximum = leb-true _ _ (a .1); minimum = leb-true _ _ (b .1); connecting = (leb-true _ _ (c .1), leb-true _ _ (d .1)) }
 
 pub zeros : (n j : ℕ) → getD {A = ℕ} (replicate n 0) j 0 ≡ 0
@@ -125,25 +125,25 @@ fresh-stands o h = record {
     queue = record { room = length-replicate {A = ℕ} queueLength 0; fits = omega arith; waits = refl; rest = λ j a. zeros queueLength j; rises = tt };
   };
   table = record {
-    kept = record {
-      longIds = length-replicate {A = ℕ} most 0;
-      longSlots = length-replicate most vacant;
-      unique = λ i j a b z e. absurd (omega (arith, zeros most i));
-      below = λ j. omega (arith, zeros most j);
-      blank = λ j e. vacants most j;
-      used = λ j z. absurd (omega (arith, zeros most j));
+    mirror = record {
+      longIds = length-replicate {A = ℕ} slotCount 0;
+      longSlots = length-replicate slotCount vacant;
+      unique = λ i j a b z e. absurd (omega (arith, zeros slotCount i));
+      below = λ j. omega (arith, zeros slotCount j);
+      blank = λ j e. vacants slotCount j;
+      used = λ j z. absurd (omega (arith, zeros slotCount j));
       listed = tt;
       distinct = tt;
       available = refl;
-      lent = nobody isLent most (replicate most vacant);
-      pending = nobody isPending most (replicate most vacant);
+      lent = nobody isLent slotCount (replicate slotCount vacant);
+      pending = nobody isPending slotCount (replicate slotCount vacant);
     };
-    room = length-replicate {A = ℕ} most 0;
+    room = length-replicate {A = ℕ} slotCount 0;
     fits = omega arith;
-    rest = λ j a. zeros most j;
+    rest = λ j a. zeros slotCount j;
     total = refl;
     pendings = refl;
-    holds = sym (untaken most);
+    holds = sym (untaken slotCount);
   };
 }
 
@@ -203,7 +203,7 @@ unfolding C.call C.step C.verdict if_then_else_
 call-numbers p l Bad st n = n
 call-numbers p l (Good e now) st n = go (length l <? enoughRoom) (first (C.tests p e now)) refl
   where
-    go : (b : Bool) (x : Option Refusal) → first (C.tests p e now) ≡ x → (if b then world p l (Refused OutputShort) else C.judged p l e now (C.orAt (target p e) x)) .pool .nextId ≤ lastNextId + 65
+    go : (b : Bool) (x : Option Refusal) → first (C.tests p e now) ≡ x → (if b then world p l (Refused OutputShort) else C.judged p l e now (C.orAccept (target p e) x)) .pool .nextId ≤ lastNextId + 65
     go true x h = n
     go false none h = event-numbers p e now (target p e) (st .alike .limits) (tests-passed st e now h) n
     go false (some r) h = n

@@ -53,9 +53,9 @@ module _ {s : Bool} where
   unfolding S.shelve
   shelve-leaves i t p = record { options = refl; serial = refl; more = omega arith; next = omega arith; state = λ _. refl }
 
-  turnAt-leaves : (k i : ℕ) (p : SlotPool) → Leaves s 0 p (S.turnAt k i p)
-  unfolding S.turnAt
-  turnAt-leaves k i p = record { options = refl; serial = refl; more = omega arith; next = omega arith; state = λ _. refl }
+  setStateAt-leaves : (k i : ℕ) (p : SlotPool) → Leaves s 0 p (S.setStateAt k i p)
+  unfolding S.setStateAt
+  setStateAt-leaves k i p = record { options = refl; serial = refl; more = omega arith; next = omega arith; state = λ _. refl }
 
   leavePending-leaves : (p : SlotPool) → Leaves s 0 p (S.leavePending p)
   unfolding S.leavePending
@@ -108,7 +108,7 @@ module _ {s : Bool} where
 
   succeededAt-leaves : (i : ℕ) (p : SlotPool) → Leaves s 0 p (S.succeededAt i p)
   unfolding S.succeededAt
-  succeededAt-leaves i p = leaves-then (emit _) _ p (leaves-all 0 p) (leaves-then S.leavePending _ p (leavePending-leaves p) (turnAt-leaves 2 i _))
+  succeededAt-leaves i p = leaves-then (emit _) _ p (leaves-all 0 p) (leaves-then S.leavePending _ p (leavePending-leaves p) (setStateAt-leaves 2 i _))
 
   succeededForPoolAt-leaves : (i opened : ℕ) (p : SlotPool) → Leaves s 0 p (S.succeededForPoolAt i opened p)
   unfolding S.succeededForPoolAt
@@ -146,7 +146,7 @@ module _ {s : Bool} where
 
   lend-leaves : (w : Waiter) (i : ℕ) (p : SlotPool) → Leaves s 1 p (S.lend w i p)
   unfolding S.lend
-  lend-leaves w i p = leaves-less (omega arith) (leaves-then (emit _) _ p (leaves-all 0 p) (leaves-if _ _ _ p (λ _. shelve-leaves i _ p) (λ _. turnAt-leaves 2 i p)))
+  lend-leaves w i p = leaves-less (omega arith) (leaves-then (emit _) _ p (leaves-all 0 p) (leaves-if _ _ _ p (λ _. shelve-leaves i _ p) (λ _. setStateAt-leaves 2 i p)))
 
   takeFrom-leaves : (k : ℕ) (w : Waiter) (p : SlotPool) → Leaves s 1 p (S.takeFrom k w p)
   unfolding S.takeFrom
@@ -168,25 +168,25 @@ module _ {s : Bool} where
   service-leaves p =
       leaves-if _ _ _ p (λ _. leaves-if _ _ _ p (λ _. leaves-all 1 p) (λ _. leaves-then S.dequeue _ p (dequeue-leaves p) (checkOut-leaves _ _))) (λ _. leaves-all 1 p)
 
-mode-leaves : (q : PoolState) (g : ℕ) (p : SlotPool) → Leaves false 0 p (S.mode q g p)
-unfolding S.mode
-mode-leaves q g p = record { options = refl; serial = refl; more = omega arith; next = omega arith; state = λ h. absurd (false≢true h) }
+enter-leaves : (q : PoolState) (g : ℕ) (p : SlotPool) → Leaves false 0 p (S.enter q g p)
+unfolding S.enter
+enter-leaves q g p = record { options = refl; serial = refl; more = omega arith; next = omega arith; state = λ h. absurd (false≢true h) }
 
 clear-leaves : (timeout : Bool) (cause : ℕ) (p : SlotPool) → Leaves false 0 p (S.clear timeout cause p)
 unfolding S.clear S.interrupted S.clearedReady
 clear-leaves timeout cause p =
     leaves-then (S.interrupted timeout) _ p (leaves-if _ _ _ p (λ _. leaves-all 0 p) (λ _. leaves-all 0 p))
-    (leaves-then (S.clearedReady timeout cause) _ _ (leaves-if _ _ _ _ (λ _. leaves-then (emit _) (S.tellAll _) _ (leaves-all 0 _) (tellAll-leaves _ _)) (λ _. leaves-all 0 _)) (mode-leaves _ _ _))
+    (leaves-then (S.clearedReady timeout cause) _ _ (leaves-if _ _ _ _ (λ _. leaves-then (emit _) (S.tellAll _) _ (leaves-all 0 _) (tellAll-leaves _ _)) (λ _. leaves-all 0 _)) (enter-leaves _ _ _))
 
 markAsReady-leaves : (p : SlotPool) → Leaves false 0 p (S.markAsReady p)
 unfolding S.markAsReady
-markAsReady-leaves p = leaves-if _ _ _ p (λ _. leaves-all 0 p) (λ _. leaves-then (emit _) (S.mode _ _) p (leaves-all 0 p) (mode-leaves _ _ _))
+markAsReady-leaves p = leaves-if _ _ _ p (λ _. leaves-all 0 p) (λ _. leaves-then (emit _) (S.enter _ _) p (leaves-all 0 p) (enter-leaves _ _ _))
 
 shut-leaves : (p : SlotPool) → Leaves false 0 p (S.shut p)
 unfolding S.shut
 shut-leaves p =
     leaves-then (S.closeFront (p .availables)) _ p (closeFront-leaves (p .availables) p)
-    (leaves-then (S.tellAll _) _ _ (tellAll-leaves _ _) (leaves-then (emit _) (S.mode _ _) _ (leaves-all 0 _) (mode-leaves _ _ _)))
+    (leaves-then (S.tellAll _) _ _ (tellAll-leaves _ _) (leaves-then (emit _) (S.enter _ _) _ (leaves-all 0 _) (enter-leaves _ _ _)))
 
 maintenance-leaves : (p : SlotPool) → Leaves false (p .options .minimum) p (S.maintenance p)
 unfolding S.maintenance S.removePerished S.ensureMinConnections
@@ -234,23 +234,23 @@ news-most (TakeFromPinner n) p = omega arith
 news-most Close p = omega arith
 
 -- an event that a closed pool takes leaves its state alone
-pub own-leaves : (e : Event) (i : ℕ) (p : SlotPool) → Leaves (takenAfterClose e) (news e p) p (S.own e i p)
-unfolding S.own
-own-leaves (CheckOut n) i p = request-leaves n false p
-own-leaves (WarmPool n) i p = request-leaves n true p
-own-leaves (Abandon n) i p = abandonAt-leaves i p
-own-leaves (CheckIn n errored executing letGo) i p = checkInAt-leaves i errored executing letGo p
-own-leaves (Clear timeout cause) i p = clear-leaves timeout cause p
-own-leaves MarkAsReady i p = markAsReady-leaves p
-own-leaves (Succeeded n) i p = succeededAt-leaves i p
-own-leaves (SucceededForPool n opened) i p = succeededForPoolAt-leaves i opened p
-own-leaves (Failed n) i p = failedAt-leaves i p
-own-leaves Maintenance i p = maintenance-leaves p
-own-leaves FillPool i p = leaves-all 0 p
-own-leaves (Pin n) i p = turnAt-leaves S.inUseNo i p
-own-leaves (ReturnToPinner n) i p = turnAt-leaves S.returnedNo i p
-own-leaves (TakeFromPinner n) i p = turnAt-leaves S.inUseNo i p
-own-leaves Close i p = shut-leaves p
+pub handle-leaves : (e : Event) (i : ℕ) (p : SlotPool) → Leaves (takenAfterClose e) (news e p) p (S.handle e i p)
+unfolding S.handle
+handle-leaves (CheckOut n) i p = request-leaves n false p
+handle-leaves (WarmPool n) i p = request-leaves n true p
+handle-leaves (Abandon n) i p = abandonAt-leaves i p
+handle-leaves (CheckIn n errored executing letGo) i p = checkInAt-leaves i errored executing letGo p
+handle-leaves (Clear timeout cause) i p = clear-leaves timeout cause p
+handle-leaves MarkAsReady i p = markAsReady-leaves p
+handle-leaves (Succeeded n) i p = succeededAt-leaves i p
+handle-leaves (SucceededForPool n opened) i p = succeededForPoolAt-leaves i opened p
+handle-leaves (Failed n) i p = failedAt-leaves i p
+handle-leaves Maintenance i p = maintenance-leaves p
+handle-leaves FillPool i p = leaves-all 0 p
+handle-leaves (Pin n) i p = setStateAt-leaves S.inUseNo i p
+handle-leaves (ReturnToPinner n) i p = setStateAt-leaves S.returnedNo i p
+handle-leaves (TakeFromPinner n) i p = setStateAt-leaves S.inUseNo i p
+handle-leaves Close i p = shut-leaves p
 
 leaves-weak : {s : Bool} {k : ℕ} {p : SlotPool} {o : Out SlotPool} → Leaves s k p o → Leaves false k p o
 leaves-weak f = record { options = f .options; serial = f .serial; more = f .more; next = f .next; state = λ h. absurd (false≢true h) }
@@ -258,7 +258,7 @@ leaves-weak f = record { options = f .options; serial = f .serial; more = f .mor
 -- the service stage takes one more
 pub event-leaves : (e : Event) (i : ℕ) (p : SlotPool) → Leaves false (news e p + 1) p (S.event e i p)
 unfolding S.event
-event-leaves e i p = leaves-then (S.own e i) _ p (leaves-weak (own-leaves e i p)) (leaves-if _ _ _ _ (λ _. service-leaves _) (λ _. leaves-all 1 _))
+event-leaves e i p = leaves-then (S.handle e i) _ p (leaves-weak (handle-leaves e i p)) (leaves-if _ _ _ _ (λ _. service-leaves _) (λ _. leaves-all 1 _))
 
 closed-not-ready : (q : PoolState) → isClosed q ≡ true → isReady q ≡ false
 closed-not-ready New h = refl
@@ -291,12 +291,12 @@ none-new Close p h = refl
 pub closed-leaves : (e : Event) (i : ℕ) (p : SlotPool) → isClosed (p .state) ≡ true → takenAfterClose e ≡ true → Leaves false 0 p (S.event e i p)
 unfolding S.event
 closed-leaves e i p c h =
-    let o = own-leaves e i p in
+    let o = handle-leaves e i p in
     let z : news e p ≡ 0 = none-new e p h in
-    let own0 : Leaves false 0 p (S.own e i p) = leaves-less (omega arith) (leaves-weak o) in
-    let still : isReady (S.own e i p .pool .state) ≡ false = ap isReady (o .state h) ∙ closed-not-ready (p .state) c in
-    leaves-then (S.own e i) _ p own0 (leaves-if _ _ _ _ (λ _. idle-leaves _ still) (λ _. leaves-all 0 _))
+    let own0 : Leaves false 0 p (S.handle e i p) = leaves-less (omega arith) (leaves-weak o) in
+    let still : isReady (S.handle e i p .pool .state) ≡ false = ap isReady (o .state h) ∙ closed-not-ready (p .state) c in
+    leaves-then (S.handle e i) _ p own0 (leaves-if _ _ _ _ (λ _. idle-leaves _ still) (λ _. leaves-all 0 _))
 
 pub close-leaves : (i : ℕ) (p : SlotPool) → Leaves false 0 p (S.event Close i p)
-unfolding S.event S.own if_then_else_
-close-leaves i p = leaves-then (S.own Close i) nothing p (shut-leaves p) (leaves-all 0 _)
+unfolding S.event S.handle if_then_else_
+close-leaves i p = leaves-then (S.handle Close i) nothing p (shut-leaves p) (leaves-all 0 _)

@@ -1,12 +1,12 @@
 pub mod Table
 pub mod Agree
-pub mod Kept
+pub mod Mirror
 pub mod Stands
 pub mod Order
 pub mod Transit
 pub mod Acts
 pub mod Queue
-pub mod Own
+pub mod Handle
 pub mod Walks
 pub mod Service
 pub mod Events

@@ -7,7 +7,7 @@ use lib.ListN.{length, getD, take}
 use lib.Seq.{getD-take, length-take-le}
 use borrow.Author.Tests.{eqb-false}
 use Rattle.definition.specs.Words.{if_then_else_, _<?_, _=?_}
-use Rattle.definition.specs.Pool.{queueLength, most, Pool, withWaiting, isClosed}
+use Rattle.definition.specs.Pool.{queueLength, slotCount, Pool, withWaiting, isClosed}
 use Rattle.definition.specs.Steps.{serviced, nothing, _>>_}
 use Rattle.definition.specs.Refusals.{lastNextId}
 use Rattle.definition.specs.declared.Event.{Event}
@@ -17,14 +17,14 @@ use Rattle.slots.specs.Slots as S
 use Rattle.slots.specs.Call.{target}
 use Rattle.slots.specs.Needs.{CanCreate, CanClose, CanShelve, CanLeave, CanPrune, CanFill, CanQueue, CanTell, CanClear, CanTake, CanWarm, CanServe}
 use Rattle.refinement.specs.Table.{by-lt, by-bool, or-right}
-use Rattle.refinement.specs.Kept.{isLent, isPending, Listed, all-at}
+use Rattle.refinement.specs.Mirror.{isLent, isPending, Listed, all-at}
 use Rattle.refinement.specs.Stands.{Stands, Formed}
 use Rattle.refinement.specs.Transit.{counted, at-most, one-less}
 use Rattle.refinement.specs.Queue.{others}
 use Rattle.refinement.specs.Acts.{vacancy}
 use Rattle.refinement.specs.Walks.{removePerished-same, closeFront-same}
 use Rattle.refinement.specs.Service.{dequeued, room-to-create}
-use Rattle.refinement.specs.Events.{Holds, fit-clock, own-same}
+use Rattle.refinement.specs.Events.{Holds, fit-clock, handle-same}
 use Rattle.refinement.specs.Tests.{Passed}
 use Rattle.refinement.specs.Leaves.{Leaves, leaves-all, leaves-if, prune-leaves, service-leaves}
 use Rattle.refinement.specs.Call.{clock-stands}
@@ -32,31 +32,31 @@ use Rattle.refinement.specs.Formed.{event-numbers, ids-left, closed-take
 
 module _ {p : SlotPool} {m : Pool} (st : Stands p m) where
   pub whole : Whole p
-  whole = record { ids = st .table .kept .longIds; slots = st .table .kept .longSlots; available = st .table .room; waiters = st .alike .queue .room }
+  whole = record { ids = st .table .mirror .longIds; slots = st .table .mirror .longSlots; available = st .table .room; waiters = st .alike .queue .room }
 
   -- every cell of the order list is a slot: the listed ones are, and the others are 0
-  pub listed-below : (j : ℕ) → getD (p .available) j 0 < most
+  pub listed-below : (j : ℕ) → getD (p .available) j 0 < slotCount
   listed-below j =
       let n = p .availables in
       by-lt j n
-      (λ h. let w = all-at (Listed (p .ids) (p .slots)) (take n (p .available)) (st .table .kept .listed) j (rw (length-take-le n (p .available) (omega (arith, st .table .room, st .table .fits))) h) in
+      (λ h. let w = all-at (Listed (p .ids) (p .slots)) (take n (p .available)) (st .table .mirror .listed) j (rw (length-take-le n (p .available) (omega (arith, st .table .room, st .table .fits))) h) in
       rw (← getD-take n (p .available) j 0 h) (w .0))
       (λ h. omega (arith, st .table .rest j h))
 
   -- all that is counted fits: there are 64 slots
-  counts : (p .availables + p .pendings ≤ p .total) × (p .total ≤ most)
+  counts : (p .availables + p .pendings ≤ p .total) × (p .total ≤ slotCount)
   counts = (omega (arith, counted (st .table), st .table .total, st .table .pendings), at-most (st .table))
 
   pub can-prune : CanPrune p
   can-prune = record { counts = omega (arith, counts .0); fits = st .table .fits; listed = listed-below }
 
-  pub can-create : p .total < most → p .nextId < 4294967295 → CanCreate p
+  pub can-create : p .total < slotCount → p .nextId < 4294967295 → CanCreate p
   can-create h n = record { spot = vacancy st h; ids = n; total = omega arith; pending = omega (arith, counts .0) }
 
   pub can-fill : p .nextId ≤ lastNextId → CanFill p
   can-fill h = record {
     held = omega (arith, st .table .holds);
-    first = omega (arith, st .table .kept .below 0);
+    first = omega (arith, st .table .mirror .below 0);
     minimum = omega (arith, st .alike .limits);
     ids = omega (arith, st .alike .limits);
     pending = omega (arith, counts .0);
@@ -74,7 +74,7 @@ module _ {p : SlotPool} {m : Pool} (st : Stands p m) where
   -- a lent connection can be closed, or go to the available list
   module _ {n i : ℕ} (at : Holds isLent n p i) where
     some-lent : 0 < length (m .lent)
-    some-lent = omega (arith, one-less (st .table) i (at .slot) isLent refl (at .state) (st .table .kept .lent))
+    some-lent = omega (arith, one-less (st .table) i (at .slot) isLent refl (at .state) (st .table .mirror .lent))
 
     pub can-close : CanClose p i
     can-close = record { slot = at .slot; some = omega (arith, st .table .total, some-lent) }
@@ -85,7 +85,7 @@ module _ {p : SlotPool} {m : Pool} (st : Stands p m) where
   -- a pending one can stop being pending
   pub can-leave : {n i : ℕ} → Holds isPending n p i → CanLeave p i
   can-leave {n} {i} at =
-      let some : 0 < length (m .pending) = omega (arith, one-less (st .table) i (at .slot) isPending refl (at .state) (st .table .kept .pending)) in
+      let some : 0 < length (m .pending) = omega (arith, one-less (st .table) i (at .slot) isPending refl (at .state) (st .table .mirror .pending)) in
       record {
         slot = at .slot;
         some = omega (arith, st .table .total);
@@ -96,7 +96,7 @@ module _ {p : SlotPool} {m : Pool} (st : Stands p m) where
   pub can-warm : CanWarm p
   can-warm = record { spot = λ h. vacancy st (omega (arith, st .alike .limits)) }
 
-  pub can-take : (p .availables ≡ 0 → p .total < most) → p .nextId < 4294967295 → CanTake p
+  pub can-take : (p .availables ≡ 0 → p .total < slotCount) → p .nextId < 4294967295 → CanTake p
   can-take z n = record { prune = can-prune; spot = λ e. vacancy st (z e); ids = n; total = omega (arith, counts .1); pending = omega (arith, counts) }
 
   pub can-serve : p .nextId < 4294967295 → CanServe p
@@ -126,12 +126,12 @@ module _ {p : SlotPool} {m : Pool} (st : Stands p m) (some : 0 < p .waitings) wh
 
 -- after the event's own act the pool can be served
 pub can-serve-after : (p : SlotPool) (e : Event) (now : ℕ) → Formed p → Passed p e now
-    → Whole (S.own e (target p e) (S.withClock p now) .pool) × CanServe (S.own e (target p e) (S.withClock p now) .pool)
+    → Whole (S.handle e (target p e) (S.withClock p now) .pool) × CanServe (S.handle e (target p e) (S.withClock p now) .pool)
 unfolding S.event _>>_
 can-serve-after p e now f h =
     let i = target p e in
-    let q : SlotPool = S.own e i (S.withClock p now) .pool in
-    let o = own-same e i (S.withClock p now) _ (clock-stands now (f .stands)) (fit-clock now p i e (h .fit)) in
+    let q : SlotPool = S.handle e i (S.withClock p now) .pool in
+    let o = handle-same e i (S.withClock p now) _ (clock-stands now (f .stands)) (fit-clock now p i e (h .fit)) in
     let n = event-numbers p e now i (f .stands .alike .limits) h (f .numbers) in
     let l : Leaves false 1 q ((if serviced e then S.service else nothing) q) = leaves-if (serviced e) S.service nothing q (λ _. service-leaves q) (λ _. leaves-all 1 q) in
     (whole (o .stands), can-serve (o .stands) (omega (arith, l .more, n)))

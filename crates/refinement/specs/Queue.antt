@@ -111,68 +111,68 @@ zeroed-rest (suc n) [] r (suc j) = refl
 zeroed-rest (suc n) (x ∷ l) r zero = refl
 zeroed-rest (suc n) (x ∷ l) r (suc j) = zeroed-rest n l (λ i h. r (suc i) (omega arith)) j
 
-module _ {cells : List ℕ} {n last : ℕ} {waiting : List Waiter} (q : Queue cells n last waiting) where
+module _ {waiters : List ℕ} {n last : ℕ} {waiting : List Waiter} (q : Queue waiters n last waiting) where
   pub waiters-counted : length waiting ≡ n
-  waiters-counted = ap length (sym (q .waits)) ∙ simp length-map (length-take-le n cells (omega (arith, q .room, q .fits)))
+  waiters-counted = ap length (sym (q .waits)) ∙ simp length-map (length-take-le n waiters (omega (arith, q .room, q .fits)))
 
-  pub queue-emptied : Queue (zeroed n cells) 0 last []
+  pub queue-emptied : Queue (zeroed n waiters) 0 last []
   queue-emptied = record {
-    room = zeroed-length n cells ∙ q .room;
+    room = zeroed-length n waiters ∙ q .room;
     fits = omega arith;
     waits = refl;
-    rest = λ j h. zeroed-rest n cells (q .rest) j;
+    rest = λ j h. zeroed-rest n waiters (q .rest) j;
     rises = tt;
   }
 
-  pub queue-joined : (r : ℕ) (warm : Bool) → n < queueLength → last < r → Queue (set cells n (4 * r + bit 1 warm)) (n + 1) r (waiting ∷ʳ record { id = r; warm = warm; abandoned = false })
+  pub queue-joined : (r : ℕ) (warm : Bool) → n < queueLength → last < r → Queue (set waiters n (4 * r + bit 1 warm)) (n + 1) r (waiting ∷ʳ record { id = r; warm = warm; abandoned = false })
   queue-joined r warm h g = record {
     room = rw length-set (q .room);
     fits = omega arith;
-    waits = rw (add-one n, take-suc-set cells n (4 * r + bit 1 warm) (omega (arith, q .room)), map-append, waiter-new r warm, q .waits);
-    rest = λ j k. getD-set-other cells n j (4 * r + bit 1 warm) 0 (λ e. omega arith) ∙ q .rest j (omega arith);
+    waits = rw (add-one n, take-suc-set waiters n (4 * r + bit 1 warm) (omega (arith, q .room)), map-append, waiter-new r warm, q .waits);
+    rest = λ j k. getD-set-other waiters n j (4 * r + bit 1 warm) 0 (λ e. omega arith) ∙ q .rest j (omega arith);
     rises = rises-snoc 0 last waiting (record { id = r; warm = warm; abandoned = false }) (omega arith) g (q .rises);
   }
 
-  pub queue-later : (r : ℕ) → last ≤ r → Queue cells n r waiting
+  pub queue-later : (r : ℕ) → last ≤ r → Queue waiters n r waiting
   queue-later r h = record { room = q .room; fits = q .fits; waits = q .waits; rest = q .rest; rises = go 0 waiting (q .rises) }
     where
       go : (b : ℕ) (l : List Waiter) → Rises b last l → Rises b r l
       go b [] x = tt
       go b (w ∷ l) x = (x .0, omega (arith, x .1), go (w .id) l (x .2))
 
-  pub queue-marked : (x k : ℕ) → k < n → getD cells k 0 / 4 ≡ x → getD cells k 0 % 4 < 2 → Queue (set cells k (getD cells k 0 + 2)) n last (map (marked x) waiting)
+  pub queue-marked : (x k : ℕ) → k < n → getD waiters k 0 / 4 ≡ x → getD waiters k 0 % 4 < 2 → Queue (set waiters k (getD waiters k 0 + 2)) n last (map (marked x) waiting)
   queue-marked x k h e g =
-      let t : getD (take n cells) k 0 ≡ getD cells k 0 = getD-take n cells k 0 h in
-      let long : length (take n cells) ≡ n = length-take-le n cells (omega (arith, q .room, q .fits)) in
-      let up : Rises 0 last (map waiterOf (take n cells)) = rw (q .waits) (q .rises) in
-      let m : map waiterOf (set (take n cells) k (getD (take n cells) k 0 + 2)) ≡ map (marked x) (map waiterOf (take n cells)) = mark-one x 0 last (take n cells) k (omega arith) (rw t e) (rw t g) up in
+      let t : getD (take n waiters) k 0 ≡ getD waiters k 0 = getD-take n waiters k 0 h in
+      let long : length (take n waiters) ≡ n = length-take-le n waiters (omega (arith, q .room, q .fits)) in
+      let up : Rises 0 last (map waiterOf (take n waiters)) = rw (q .waits) (q .rises) in
+      let m : map waiterOf (set (take n waiters) k (getD (take n waiters) k 0 + 2)) ≡ map (marked x) (map waiterOf (take n waiters)) = mark-one x 0 last (take n waiters) k (omega arith) (rw t e) (rw t g) up in
       record {
         room = rw length-set (q .room);
         fits = q .fits;
-        waits = rw (take-set-lt n cells k (getD cells k 0 + 2) h, ← t, m, q .waits);
-        rest = λ j i. getD-set-other cells k j (getD cells k 0 + 2) 0 (λ z. omega arith) ∙ q .rest j i;
+        waits = rw (take-set-lt n waiters k (getD waiters k 0 + 2) h, ← t, m, q .waits);
+        rest = λ j i. getD-set-other waiters k j (getD waiters k 0 + 2) 0 (λ z. omega arith) ∙ q .rest j i;
         rises = rises-marked x 0 last waiting (q .rises);
       }
 
 -- the first k behind the front
 abbrev pub others : List ℕ → ℕ → List Waiter
-others cells k = map waiterOf (take k (drop 1 cells))
+others waiters k = map waiterOf (take k (drop 1 waiters))
 
 -- the front leaves
-module _ {cells : List ℕ} {k last : ℕ} {waiting : List Waiter} (q : Queue cells (suc k) last waiting) where
-  pub queue-front : waiting ≡ waiterOf (getD cells 0 0) ∷ others cells k
-  queue-front = sym (q .waits) ∙ ap (map waiterOf) (take-front cells k (omega (arith, q .room)))
+module _ {waiters : List ℕ} {k last : ℕ} {waiting : List Waiter} (q : Queue waiters (suc k) last waiting) where
+  pub queue-front : waiting ≡ waiterOf (getD waiters 0 0) ∷ others waiters k
+  queue-front = sym (q .waits) ∙ ap (map waiterOf) (take-front waiters k (omega (arith, q .room)))
 
-  pub queue-left : Queue (shifted (suc k) cells) k last (others cells k)
+  pub queue-left : Queue (shifted (suc k) waiters) k last (others waiters k)
   queue-left =
-      let h : k < length cells = omega (arith, q .room, q .fits) in
-      let up : Rises 0 last (waiterOf (getD cells 0 0) ∷ others cells k) = rw queue-front at (q .rises) in
+      let h : k < length waiters = omega (arith, q .room, q .fits) in
+      let up : Rises 0 last (waiterOf (getD waiters 0 0) ∷ others waiters k) = rw queue-front at (q .rises) in
       record {
-        room = length-shifted (suc k) cells (omega arith) h ∙ q .room;
+        room = length-shifted (suc k) waiters (omega arith) h ∙ q .room;
         fits = omega (arith, q .fits);
-        waits = ap (map waiterOf) (take-rest cells k h);
-        rest = shifted-rest cells k h (q .rest);
-        rises = rises-less 0 (getD cells 0 0 / 4) last (others cells k) (omega arith) (up .2);
+        waits = ap (map waiterOf) (take-rest waiters k h);
+        rest = shifted-rest waiters k h (q .rest);
+        rises = rises-less 0 (getD waiters 0 0 / 4) last (others waiters k) (omega arith) (up .2);
       }
 
 -- ── Whether a request waits ────────────────────────────────────────────────────────────────────────────────────────────
@@ -202,13 +202,13 @@ one-waits n b last (x ∷ l) (suc k) h e r =
     let d : x / 4 ≡ n → ⊥ = λ q. omega (arith, above (x / 4) last l k (r .2) (omega arith)) in
     rw (ne-eqb (x / 4) n d) (one-waits n (x / 4) last l k (omega arith) e (r .2))
 
-pub waits-same : {cells : List ℕ} {n last : ℕ} {waiting : List Waiter} (q : Queue cells n last waiting) (x : ℕ)
-    → (placeOf x n cells <? n && getD cells (placeOf x n cells) 0 % 4 <? 2) ≡ any? (waitsFor x) waiting
-waits-same {cells} {n} {last} {waiting} q x =
-    let k = placeOf x n cells in
-    let long : length (take n cells) ≡ n = length-take-le n cells (omega (arith, q .room, q .fits)) in
+pub waits-same : {waiters : List ℕ} {n last : ℕ} {waiting : List Waiter} (q : Queue waiters n last waiting) (x : ℕ)
+    → (placeOf x n waiters <? n && getD waiters (placeOf x n waiters) 0 % 4 <? 2) ≡ any? (waitsFor x) waiting
+waits-same {waiters} {n} {last} {waiting} q x =
+    let k = placeOf x n waiters in
+    let long : length (take n waiters) ≡ n = length-take-le n waiters (omega (arith, q .room, q .fits)) in
     rw (← q .waits)
     (by-lt k n
-    (λ h. let t : getD (take n cells) k 0 ≡ getD cells k 0 = getD-take n cells k 0 h in
-    rw (lt-ltb k n h) (ap (λ (y : ℕ). y % 4 <? 2) (sym t) ∙ sym (one-waits x 0 last (take n cells) k (omega arith) (rw t (place-found (λ v. v / 4) x n cells h)) (rw (q .waits) (q .rises)))))
-    (λ h. rw (le-ltb k n h) (sym (none-waits x (take n cells) (λ j i e. place-not (λ v. v / 4) x n cells h j (omega arith) (sym (ap (λ (y : ℕ). y / 4) (getD-take n cells j 0 (omega arith))) ∙ e))))))
+    (λ h. let t : getD (take n waiters) k 0 ≡ getD waiters k 0 = getD-take n waiters k 0 h in
+    rw (lt-ltb k n h) (ap (λ (y : ℕ). y % 4 <? 2) (sym t) ∙ sym (one-waits x 0 last (take n waiters) k (omega arith) (rw t (place-found (λ v. v / 4) x n waiters h)) (rw (q .waits) (q .rises)))))
+    (λ h. rw (le-ltb k n h) (sym (none-waits x (take n waiters) (λ j i e. place-not (λ v. v / 4) x n waiters h j (omega arith) (sym (ap (λ (y : ℕ). y / 4) (getD-take n waiters j 0 (omega arith))) ∙ e))))))

@@ -10,7 +10,7 @@ use lib.ListN.{length, getD, take, length-map}
 use lib.Seq.{length-take-le}
 use borrow.Author.Tests.{eq-eqb, ne-eqb}
 use Rattle.definition.specs.Words.{if_then_else_, _=?_}
-use Rattle.definition.specs.Pool.{queueLength, most, Pool, Conn, without, stateNo}
+use Rattle.definition.specs.Pool.{queueLength, slotCount, Pool, Conn, without, stateNo}
 use Rattle.definition.specs.Refusals.{lastNextId}
 use Rattle.definition.specs.declared.ConnectionState.{ConnectionState}
 use Rattle.definition.specs.declared.ConnectionState.the-variants.{Vacant, CheckedIn, CheckedOut, Pinned, Pending}
@@ -22,7 +22,7 @@ use Rattle.slots.specs.Slots.{vacant}
 use Rattle.slots.specs.Needs.{taken}
 use Rattle.refinement.specs.Table.{by-eq, by-bool, Unique, unique-tail, look, cell, lookup, Once, none-not-some, lookup-other, lookup-gone, once-without, length-without, one, one-pos, one-zero}
 use Rattle.refinement.specs.Agree.{Class, Agrees, only}
-use Rattle.refinement.specs.Kept.{isLent, isPending, All, Distinct, Listed, Used, view}
+use Rattle.refinement.specs.Mirror.{isLent, isPending, All, Distinct, Listed, Used, view}
 use Rattle.refinement.specs.Stands.{Limits, Rises, Stands, Formed}
 use Rattle.refinement.specs.Transit.{counted}
 use Rattle.refinement.specs.Needs.{whole}
@@ -198,7 +198,7 @@ pub record Rules (p : SlotPool) : Type 0 where
   pub below : (j : ℕ) → S.idAt p j < p .nextId
   pub blank : (j : ℕ) → S.idAt p j ≡ 0 → S.slotAt p j ≡ vacant
   pub used : (j : ℕ) → 0 < S.idAt p j → Used (S.slotAt p j)
-  pub fits : p .availables ≤ most
+  pub fits : p .availables ≤ slotCount
   pub listed : All (Listed (p .ids) (p .slots)) (take (p .availables) (p .available))
   pub distinct : Distinct (take (p .availables) (p .available))
   pub rest : (j : ℕ) → p .availables ≤ j → getD (p .available) j 0 ≡ 0
@@ -245,7 +245,7 @@ rules-stand p r =
         queue = record { room = r .columns .waiters; fits = r .queue; waits = refl; rest = r .queueRest; rises = r .rises };
       };
       table = record {
-        kept = record {
+        mirror = record {
           longIds = r .columns .ids;
           longSlots = r .columns .slots;
           unique = r .unique;
@@ -274,7 +274,7 @@ rules-formed p r = record { lists = listsOf p; stands = rules-stand p r; numbers
 pub formed-rules : (p : SlotPool) → Formed p → Rules p
 formed-rules p f =
     let st = f .stands in
-    let k = st .table .kept in
+    let k = st .table .mirror in
     let le = as-many isLent (p .ids) (p .slots) (f .lists .lent) (k .unique) (k .used) (k .lent) in
     let pe = as-many isPending (p .ids) (p .slots) (f .lists .pending) (k .unique) (k .used) (k .pending) in
     let s = split (p .ids) (p .slots) (omega (arith, k .longIds, k .longSlots)) (k .used) in

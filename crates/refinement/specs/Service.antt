@@ -8,7 +8,7 @@ use lib.ListN.{length, getD, take, length-reverse}
 use borrow.Author.Tests.{ltb-true, leb-false, eq-eqb, ne-eqb, lt-ltb}
 use Rattle.definition.specs.Words.{if_then_else_, _<?_, _≤?_, _=?_, _∷ʳ_, some?}
 use Rattle.definition.specs.Pool as P
-use Rattle.definition.specs.Pool.{most, Pool, Conn, Waiter, isReady, total}
+use Rattle.definition.specs.Pool.{slotCount, Pool, Conn, Waiter, isReady, total}
 use Rattle.definition.specs.Records.{Pooled, Establishing, Warmed, told}
 use Rattle.definition.specs.Steps as D
 use Rattle.definition.specs.Steps.{nothing, emit, become}
@@ -23,10 +23,10 @@ use Rattle.refinement.specs.Stands.{Queue, Stands, Same}
 use Rattle.refinement.specs.Transit.{counted, at-most}
 use Rattle.refinement.specs.Queue.{others, queue-front, queue-left}
 use Rattle.refinement.specs.Acts.{same-nothing, same-emit, same-then, same-said, same-if, Transit, Is, shelve-same, lendOut-same, create-same}
-use Rattle.refinement.specs.Own.{alike-queue}
+use Rattle.refinement.specs.Handle.{alike-queue}
 use Rattle.refinement.specs.Walks.{shown, back-shown, back-transit, perished-same, closePerished-same, close-counts, back-counts}
 
-pub establish-same : (w : Waiter) (p : SlotPool) (m : Pool) → Stands p m → p .total < most → Same (S.establish w p) (D.establish w m)
+pub establish-same : (w : Waiter) (p : SlotPool) (m : Pool) → Stands p m → p .total < slotCount → Same (S.establish w p) (D.establish w m)
 unfolding S.establish D.establish
 establish-same w p m st h =
     let c = create-same Request p m st h in
@@ -43,7 +43,7 @@ lend-same w i c p m tr e =
     (λ _. lendOut-same i c p m tr is))
 
 -- of the available, from the back
-pub takeFrom-same : (w : Waiter) (k : ℕ) (l : List Conn) (p : SlotPool) (m : Pool) → Stands p m → m .available ≡ reverse l → k ≡ p .availables → (k ≡ 0 → p .total < most) → Same (S.takeFrom k w p) (D.takeAvailable w l m)
+pub takeFrom-same : (w : Waiter) (k : ℕ) (l : List Conn) (p : SlotPool) (m : Pool) → Stands p m → m .available ≡ reverse l → k ≡ p .availables → (k ≡ 0 → p .total < slotCount) → Same (S.takeFrom k w p) (D.takeAvailable w l m)
 unfolding S.takeFrom D.takeAvailable D.closePerished S.popBack
 takeFrom-same w zero [] p m st e n z = establish-same w p m st (z refl)
 takeFrom-same w zero (c ∷ cs) p m st e n z = absurd (omega (arith, counted (st .table), ap length e, length-reverse (c ∷ cs)))
@@ -63,7 +63,7 @@ takeFrom-same w (suc k) (c ∷ cs) p m st e n z =
     (λ _. lend-same w i c _ _ tr sh))
 
 -- where none is available there is room for one more, and so there is below the minimum
-pub checkOut-same : (w : Waiter) (p : SlotPool) (m : Pool) → Stands p m → (p .availables ≡ 0 → p .total < most) → Same (S.checkOut w p) (D.checkOut w m)
+pub checkOut-same : (w : Waiter) (p : SlotPool) (m : Pool) → Stands p m → (p .availables ≡ 0 → p .total < slotCount) → Same (S.checkOut w p) (D.checkOut w m)
 unfolding S.checkOut D.checkOut
 checkOut-same w p m st z =
     let e : (p .options .minimum ≤? p .total) ≡ (m .options .minimum ≤? total m) = ap (λ (x : Options). x .minimum ≤? p .total) (st .alike .options) ∙ ap (λ (x : ℕ). m .options .minimum ≤? x) (st .table .total) in
@@ -84,7 +84,7 @@ module _ (p : SlotPool) (m : Pool) (st : Stands p m) (k : ℕ) (n : suc k ≡ p 
     table = st .table;
   }
 
-  pub serveFront-same : (p .availables ≡ 0 → p .total < most) → Same (S.serveFront p) (D.serveFront (m .waiting) m)
+  pub serveFront-same : (p .availables ≡ 0 → p .total < slotCount) → Same (S.serveFront p) (D.serveFront (m .waiting) m)
   unfolding S.serveFront D.serveFront S.dequeue
   serveFront-same z =
       subst (λ (l : List Waiter). Same (S.serveFront p) (D.serveFront l m)) (sym (queue-front queue-of))
@@ -116,7 +116,7 @@ waiting-none : {p : SlotPool} {m : Pool} → Stands p m → p .waitings ≡ 0 �
 waiting-none {p} st z = sym (st .alike .queue .waits) ∙ ap (λ (x : ℕ). map waiterOf (take x (p .waiters))) z
 
 -- the front waiter, if there is one
-front-same : (p : SlotPool) (m : Pool) → Stands p m → (p .availables ≡ 0 → p .total < most) → Same ((if p .waitings =? 0 then nothing else S.serveFront) p) (D.serveFront (m .waiting) m)
+front-same : (p : SlotPool) (m : Pool) → Stands p m → (p .availables ≡ 0 → p .total < slotCount) → Same ((if p .waitings =? 0 then nothing else S.serveFront) p) (D.serveFront (m .waiting) m)
 unfolding if_then_else_ D.serveFront
 front-same p m st z =
     by-eq (p .waitings) 0

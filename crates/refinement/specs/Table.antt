@@ -10,10 +10,10 @@ use lib.ListN.{length, getD, set, length-set}
 use lib.Seq.{getD-set-same, getD-set-other}
 use borrow.Author.Tests.{eq-eqb, ne-eqb, eqb-true, eqb-false, ltb-true, ltb-false}
 use Rattle.definition.specs.Words.{if_then_else_, _=?_, _∷ʳ_}
-use Rattle.definition.specs.Pool.{Conn, has, find, without, turn, stateNo}
+use Rattle.definition.specs.Pool.{Conn, has, find, without, setState, stateNo}
 use Rattle.definition.specs.declared.ConnectionState.{ConnectionState}
 use Rattle.slots.specs.View.{Slot}
-use Rattle.slots.specs.Slots.{vacant, turned}
+use Rattle.slots.specs.Slots.{vacant, withState}
 use Rattle.slots.specs.Needs.{taken}
 
 -- a case by a test
@@ -191,35 +191,35 @@ once-snoc c (d ∷ l) o h =
 
 -- one is turned: it has its number and its generation still
 module _ (q : ConnectionState) (t n : ℕ) where
-  pub lookup-turn-other : (k : ℕ) (l : List Conn) → (k ≡ n → ⊥) → lookup k (turn q t n l) ≡ lookup k l
+  pub lookup-set-other : (k : ℕ) (l : List Conn) → (k ≡ n → ⊥) → lookup k (setState q t n l) ≡ lookup k l
   unfolding lookup if_then_else_
-  lookup-turn-other k [] h = refl
-  lookup-turn-other k (c ∷ l) h =
+  lookup-set-other k [] h = refl
+  lookup-set-other k (c ∷ l) h =
       by-eq (c .id) n
       (λ e. let z : c .id ≡ k → ⊥ = λ y. h (sym y ∙ e) in rw (eq-eqb (c .id) n e, ne-eqb (c .id) k z))
-      (λ e. rw (ne-eqb (c .id) n e, lookup-turn-other k l h))
+      (λ e. rw (ne-eqb (c .id) n e, lookup-set-other k l h))
 
-  pub lookup-turn : (l : List Conn) (s : Slot) → lookup n l ≡ some s → lookup n (turn q t n l) ≡ some (turned (stateNo q) t s)
+  pub lookup-set : (l : List Conn) (s : Slot) → lookup n l ≡ some s → lookup n (setState q t n l) ≡ some (withState (stateNo q) t s)
   unfolding lookup if_then_else_
-  lookup-turn [] s h = none-not-some (lookup n []) s refl h
-  lookup-turn (c ∷ l) s h =
+  lookup-set [] s h = none-not-some (lookup n []) s refl h
+  lookup-set (c ∷ l) s h =
       by-eq (c .id) n
       (λ e. let g : some (cell c) ≡ some s = rw (eq-eqb (c .id) n e) at h in let d : cell c ≡ s = cc in
-      rw (eq-eqb (c .id) n e, eq-eqb (c .id) n e) (ap (λ (x : Slot). some (turned (stateNo q) t x)) d))
-      (λ e. rw (ne-eqb (c .id) n e, ne-eqb (c .id) n e) (lookup-turn l s (rw (ne-eqb (c .id) n e) at h)))
+      rw (eq-eqb (c .id) n e, eq-eqb (c .id) n e) (ap (λ (x : Slot). some (withState (stateNo q) t x)) d))
+      (λ e. rw (ne-eqb (c .id) n e, ne-eqb (c .id) n e) (lookup-set l s (rw (ne-eqb (c .id) n e) at h)))
 
-  pub once-turn : (l : List Conn) → Once l → Once (turn q t n l)
+  pub once-set : (l : List Conn) → Once l → Once (setState q t n l)
   unfolding if_then_else_
-  once-turn [] o = tt
-  once-turn (c ∷ l) o =
+  once-set [] o = tt
+  once-set (c ∷ l) o =
       by-eq (c .id) n
       (λ e. rw (eq-eqb (c .id) n e) o)
-      (λ e. rw (ne-eqb (c .id) n e) (lookup-turn-other (c .id) l e ∙ o .0, once-turn l (o .1)))
+      (λ e. rw (ne-eqb (c .id) n e) (lookup-set-other (c .id) l e ∙ o .0, once-set l (o .1)))
 
-  pub length-turn : (l : List Conn) → length (turn q t n l) ≡ length l
+  pub length-setState : (l : List Conn) → length (setState q t n l) ≡ length l
   unfolding if_then_else_
-  length-turn [] = refl
-  length-turn (c ∷ l) = by-eq (c .id) n (λ e. rw (eq-eqb (c .id) n e)) (λ e. rw (ne-eqb (c .id) n e) (ap suc (length-turn l)))
+  length-setState [] = refl
+  length-setState (c ∷ l) = by-eq (c .id) n (λ e. rw (eq-eqb (c .id) n e)) (λ e. rw (ne-eqb (c .id) n e) (ap suc (length-setState l)))
 
 -- the definition's words for it
 pub has-not : (n : ℕ) (l : List Conn) → lookup n l ≡ none → has n l ≡ false

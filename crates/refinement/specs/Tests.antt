@@ -10,7 +10,7 @@ use borrow.Author.Tests.{eqb-true, ne-eqb, leb-false, ltb-true, ltb-false, not-f
 use Rattle.definition.specs.Laws.{not-first}
 use Rattle.definition.specs.Words.{if_then_else_, _<?_, _≤?_, _=?_}
 use Rattle.definition.specs.Pool as P
-use Rattle.definition.specs.Pool.{queueLength, most, Pool, Conn, isClosed, has, hasIn, find, stateNo}
+use Rattle.definition.specs.Pool.{queueLength, slotCount, Pool, Conn, isClosed, has, hasIn, find, stateNo}
 use Rattle.definition.specs.Steps.{kindNo, _to_holds_}
 use Rattle.definition.specs.Refusals as R
 use Rattle.definition.specs.Refusals.{Test, _if_, first, wrongTime, takenAfterClose, lastNextId, lastGeneration}
@@ -24,11 +24,11 @@ use Rattle.slots.specs.View.{SlotPool, Slot}
 use Rattle.slots.specs.Slots as S
 use Rattle.slots.specs.Slots.{vacant}
 use Rattle.slots.specs.Call as C
-use Rattle.slots.specs.declared.Verdict.the-variants.{At}
+use Rattle.slots.specs.declared.Verdict.the-variants.{Accept}
 use Rattle.slots.specs.Call.{slotOf, waiterOf?, stateOf, timeOf, target}
 use Rattle.refinement.specs.Table.{look-at, look-none, by-eq, by-lt, by-bool, and-both, cell, lookup, has-it, has-not}
 use Rattle.refinement.specs.Agree.{Class, Agrees, only, only-out, only-none}
-use Rattle.refinement.specs.Kept.{isLent, isPending, lengths, inIds}
+use Rattle.refinement.specs.Mirror.{isLent, isPending, lengths, inIds}
 use Rattle.refinement.specs.Stands.{Stands}
 use Rattle.refinement.specs.Order.{within, holds-in, holds-below, holds-above, place-not}
 use Rattle.refinement.specs.Transit.{seen}
@@ -53,12 +53,12 @@ module _ {p : SlotPool} {m : Pool} (st : Stands p m) (n : ℕ) (t : Class) (neve
 
   -- found in a state of the class
   pub found : t (stateOf p n) ≡ true → Holds t n p i
-  found h = record { slot = low; id = place-found (λ v. v) n most (p .ids) low; state = h }
+  found h = record { slot = low; id = place-found (λ v. v) n slotCount (p .ids) low; state = h }
     where
-      low : i < most
+      low : i < slotCount
       low =
-          by-lt i most (λ g. g)
-          (λ g. absurd (false≢true (sym never ∙ ap (λ (x : Slot). t (x .state)) (sym (List·getD-eq-default (p .slots) vacant (omega (arith, st .table .kept .longSlots)))) ∙ h)))
+          by-lt i slotCount (λ g. g)
+          (λ g. absurd (false≢true (sym never ∙ ap (λ (x : Slot). t (x .state)) (sym (List·getD-eq-default (p .slots) vacant (omega (arith, st .table .mirror .longSlots)))) ∙ h)))
 
   pub there : t (stateOf p n) ≡ true → (has n l ≡ true) × (cell (find n l) ≡ S.slotAt p i)
   there h =
@@ -69,9 +69,9 @@ module _ {p : SlotPool} {m : Pool} (st : Stands p m) (n : ℕ) (t : Class) (neve
   absent h = has-not n l (by-eq n 0
       (λ e. ap (λ (x : ℕ). lookup x l) e ∙ a .named)
       (λ d. let z : 0 < n = omega (arith, d) in
-      sym (a .finds n z) ∙ by-lt i most
-      (λ g. ap (only t) (look-at n i (p .ids) (p .slots) (lengths (st .table .kept) i g) (st .table .kept .unique) (inIds (st .table .kept) i g) z (place-found (λ v. v) n most (p .ids) g)) ∙ only-out t (S.slotAt p i) h)
-      (λ g. ap (only t) (look-none n (p .ids) (p .slots) (λ j k. place-not (λ v. v) n most (p .ids) g j (omega (arith, st .table .kept .longIds)))) ∙ only-none t)))
+      sym (a .finds n z) ∙ by-lt i slotCount
+      (λ g. ap (only t) (look-at n i (p .ids) (p .slots) (lengths (st .table .mirror) i g) (st .table .mirror .unique) (inIds (st .table .mirror) i g) z (place-found (λ v. v) n slotCount (p .ids) g)) ∙ only-out t (S.slotAt p i) h)
+      (λ g. ap (only t) (look-none n (p .ids) (p .slots) (λ j k. place-not (λ v. v) n slotCount (p .ids) g j (omega (arith, st .table .mirror .longIds)))) ∙ only-none t)))
 
   pub has-same : t (stateOf p n) ≡ has n l
   has-same = by-bool (t (stateOf p n)) (λ h. h ∙ sym (there h .0)) (λ h. h ∙ sym (absent h))
@@ -105,14 +105,14 @@ pinned-lent k h = let w = within 3 4 k h in holds-in 2 4 k (omega arith) (omega 
 -- the definition's tests of an event, the room for records apart
 abbrev pub eventTests : Pool → Event → ℕ → List Test
 eventTests m e now =
-    (ClockBack if now <? m .clock) ∷ (AfterClose if isClosed (m .state) && not (takenAfterClose e)) ∷ (NumbersSpent if R.numbersSpent m e) ∷ R.ofKind m e now
+    (ClockBack if now <? m .clock) ∷ (AfterClose if isClosed (m .state) && not (takenAfterClose e)) ∷ (NumbersSpent if R.numbersSpent m e) ∷ R.kindTests m e now
 
 module _ {p : SlotPool} {m : Pool} (st : Stands p m) where
   abbrev lents : Agrees isLent (p .ids) (p .slots) (m .lent)
-  lents = st .table .kept .lent
+  lents = st .table .mirror .lent
 
   abbrev pends : Agrees isPending (p .ids) (p .slots) (m .pending)
-  pends = st .table .kept .pending
+  pends = st .table .mirror .pending
 
   request-tests : (n : ℕ) → first (C.requestTests p n) ≡ first (R.requestTests m n)
   request-tests n =
@@ -130,7 +130,7 @@ module _ {p : SlotPool} {m : Pool} (st : Stands p m) where
       first-same WrongState (not b) (not b') _ _ (ap not e)
       (λ h. first-same WrongTime (wrongTime second last now) (wrongTime second last' now) [] [] (ap (λ (x : ℕ). wrongTime second x now) (f (not-false b h))) (λ _. refl))
 
-  kind-tests : (e : Event) (now : ℕ) → first (C.ofKind p e now) ≡ first (R.ofKind m e now)
+  kind-tests : (e : Event) (now : ℕ) → first (C.kindTests p e now) ≡ first (R.kindTests m e now)
   kind-tests (CheckOut n) now = request-tests n
   kind-tests (WarmPool n) now = request-tests n
   kind-tests (Abandon n) now = first-same NotWaiting _ _ [] [] (ap not (waits-same (st .alike .queue) n)) (λ _. refl)
@@ -187,12 +187,12 @@ new-fit p n h =
 
 module _ {p : SlotPool} {m : Pool} (st : Stands p m) where
   lent-fit : (n : ℕ) → isLent (stateOf p n) ≡ true → Holds isLent n p (slotOf p n)
-  lent-fit n = found st n isLent refl (st .table .kept .lent)
+  lent-fit n = found st n isLent refl (st .table .mirror .lent)
 
   pending-fit : (n : ℕ) → isPending (stateOf p n) ≡ true → Holds isPending n p (slotOf p n)
-  pending-fit n = found st n isPending refl (st .table .kept .pending)
+  pending-fit n = found st n isPending refl (st .table .mirror .pending)
 
-  kind-fit : (e : Event) (now : ℕ) → first (C.ofKind p e now) ≡ none → Fit e p (target p e)
+  kind-fit : (e : Event) (now : ℕ) → first (C.kindTests p e now) ≡ none → Fit e p (target p e)
   kind-fit (CheckOut n) now h = new-fit p n h
   kind-fit (WarmPool n) now h = new-fit p n h
   kind-fit (Abandon n) now h =
@@ -221,10 +221,10 @@ module _ {p : SlotPool} {m : Pool} (st : Stands p m) where
       record { clock = ltb-false now (p .clock) (a .0); taken = b .0; numbers = c .0; fit = kind-fit e now (c .1) }
 
   -- and so where the verdict names a slot or a waiter: it is the event's
-  pub verdict-passed : (e : Event) (now i : ℕ) → C.verdict p e now ≡ At i → Passed p e now × (i ≡ target p e)
+  pub verdict-passed : (e : Event) (now i : ℕ) → C.verdict p e now ≡ Accept i → Passed p e now × (i ≡ target p e)
   unfolding C.verdict
   verdict-passed e now i h = go (first (C.tests p e now)) refl h
     where
-      go : (x : Option Refusal) → first (C.tests p e now) ≡ x → C.orAt (target p e) x ≡ At i → Passed p e now × (i ≡ target p e)
+      go : (x : Option Refusal) → first (C.tests p e now) ≡ x → C.orAccept (target p e) x ≡ Accept i → Passed p e now × (i ≡ target p e)
       go none q g = (tests-passed e now q, (cc))
       go (some r) q g = let z : _≡_ {A = ℕ} 0 1 = cc in absurd (omega arith)

@@ -21,11 +21,11 @@ use Rattle.slots.specs.Order.{shifted}
 use Rattle.slots.specs.View.{SlotPool}
 use Rattle.slots.specs.Slots as S
 use Rattle.refinement.specs.Table.{by-lt}
-use Rattle.refinement.specs.Kept.{connAt}
+use Rattle.refinement.specs.Mirror.{connAt}
 use Rattle.refinement.specs.Stands.{Alike, Table, Stands, Same}
 use Rattle.refinement.specs.Transit.{Off, counted, front-is, off-front, back-is, off-back}
 use Rattle.refinement.specs.Acts.{same-nothing, same-emit, same-then, same-said, same-silent, same-if, Transit, alike-table, closeAt-same, create-same}
-use Rattle.refinement.specs.Own.{mode-same, tellAll-same}
+use Rattle.refinement.specs.Handle.{enter-same, tellAll-same}
 
 -- ── The front and the back of the available list ───────────────────────────────────────────────────────────────────────
 
@@ -194,5 +194,5 @@ shut-same p m st =
     same-silent (become q) _ m refl
     (same-said (S.closeFront (p .availables)) _ (emitAll (closings (m .available))) _ p q (all .records)
     (same-then (S.tellAll Gone) _ (D.tellAll Gone) _ _ _ told
-    (same-then (emit PoolShut) (S.mode Closed (p .generation)) (emit PoolShut) (D.mode Closed (m .generation)) _ _ (same-emit PoolShut PoolShut _ _ refl (told .stands))
-    (mode-same Closed (p .generation) (m .generation) _ _ (st .alike .generation) (told .stands)))))
+    (same-then (emit PoolShut) (S.enter Closed (p .generation)) (emit PoolShut) (D.enter Closed (m .generation)) _ _ (same-emit PoolShut PoolShut _ _ refl (told .stands))
+    (enter-same Closed (p .generation) (m .generation) _ _ (st .alike .generation) (told .stands)))))

@@ -17,7 +17,7 @@ use Rattle.replay.specs.declared.Day.{Day}
 use Rattle.replay.specs.Feed.{Took, View, Fed, lineRoom, emptied, goOn, finish, ended}
 use Rattle.replay.specs.OnSlots.{Play, onSlots}
 use Rattle.replay.specs.Meaning.{begun}
-use Rattle.replay.specs.Days.{blank, opening, Told, all?, toldOf, dayIn, Logged}
+use Rattle.replay.specs.Days.{blank, opening, Underway, all?, toldOf, dayIn, Logged}
 use Rattle.replay.specs.Code.{playOf, viewOf, Read, Lined}
 
 abbrev pub beginRun : (budget : ℕ) → Run

@@ -25,21 +25,21 @@ abbrev pub opening : (budget : ℕ) → View Play
 opening budget = emptied (begun budget (freshSlots blank) (replicate 8192 0))
 
 -- what a call says, and whether that is all
-pub record Told : Type 0 where
+pub record Underway : Type 0 where
   pub whole : Bool
   pub took : Took Play ℕ
 
 abbrev pub all? : (room : ℕ) → Fed Play ℕ → Bool
 all? room k = (length (k .rest) =? 0) && (lineRoom ≤? room - length (k .out))
 
-abbrev pub toldOf : Bool → Fed Play ℕ → Told
+abbrev pub toldOf : Bool → Fed Play ℕ → Underway
 toldOf b k = if b then record { whole = true; took = ended onSlots k } else record { whole = false; took = record { state = k .view .state; out = k .out } }
 
 -- the text is read as far as there is room, and ended where it is read to its end and there is room for one event more
-unfoldable pub dayIn : (room budget : ℕ) → (text : List ℕ) → Told
+unfoldable pub dayIn : (room budget : ℕ) → (text : List ℕ) → Underway
 dayIn room budget text = toldOf (all? room (goOn onSlots room (opening budget) text)) (goOn onSlots room (opening budget) text)
 
-pub record Logged (t : Told) (before after : List ℕ) (d : Day) : Type 0 where
+pub record Logged (t : Underway) (before after : List ℕ) (d : Day) : Type 0 where
   pub whole : d .whole ≡ t .whole
   pub used : d .used ≡ t .took .state .used
   pub written : d .written ≡ length (t .took .out)

@@ -24,10 +24,10 @@ use Rattle.slots.specs.Call.{World, world, target}
 use Rattle.slots.specs.declared.Outcome.{Outcome}
 use Rattle.slots.specs.declared.Outcome.the-variants.{Refused, Accepted}
 use Rattle.refinement.specs.Stands.{Stands}
-use Rattle.refinement.specs.Events.{Fit, fit-clock, own-same}
+use Rattle.refinement.specs.Events.{Fit, fit-clock, handle-same}
 use Rattle.refinement.specs.Tests.{tests-passed}
 use Rattle.refinement.specs.Call.{clock-stands}
-use Rattle.refinement.specs.Few.{Few, few-then, few-if, few-more, few-said, shelve-few, turnAt-few, closePerished-few, own-few}
+use Rattle.refinement.specs.Few.{Few, few-then, few-if, few-more, few-said, shelve-few, setStateAt-few, closePerished-few, handle-few}
 
 back-few : (p : SlotPool) → Few 0 (S.popBack p)
 unfolding S.popBack
@@ -39,7 +39,7 @@ establish-few w p = record { records = omega arith }
 
 lend-few : (w : Waiter) (i : ℕ) (p : SlotPool) → Few 1 (S.lend w i p)
 unfolding S.lend
-lend-few w i p = few-then 1 0 (emit _) _ p (few-said 1 p (omega arith)) (few-if (w .abandoned) _ _ p (shelve-few 0 i _ p) (turnAt-few 0 _ i p))
+lend-few w i p = few-then 1 0 (emit _) _ p (few-said 1 p (omega arith)) (few-if (w .abandoned) _ _ p (shelve-few 0 i _ p) (setStateAt-few 0 _ i p))
 
 takeFrom-few : (k : ℕ) (w : Waiter) (p : SlotPool) → Few (k + 2) (S.takeFrom k w p)
 unfolding S.takeFrom
@@ -65,9 +65,9 @@ service-few p = few-if _ _ _ p (few-if _ _ _ p (few-said _ p (omega arith)) (ser
 event-few : (e : Event) (i : ℕ) (p : SlotPool) (m : Pool) → Stands p m → Fit e p i → Few 512 (S.event e i p)
 unfolding S.event
 event-few e i p m st f =
-    let q = S.own e i p .pool in
-    few-more (321 + (q .availables + 2)) 512 (omega (arith, own-same e i p m st f .stands .table .fits))
-    (few-then 321 (q .availables + 2) (S.own e i) _ p (own-few st e i) (few-if (serviced e) S.service nothing q (service-few q) (few-said _ q (omega arith))))
+    let q = S.handle e i p .pool in
+    few-more (321 + (q .availables + 2)) 512 (omega (arith, handle-same e i p m st f .stands .table .fits))
+    (few-then 321 (q .availables + 2) (S.handle e i) _ p (handle-few st e i) (few-if (serviced e) S.service nothing q (service-few q) (few-said _ q (omega arith))))
 
 -- a refused call writes none
 abbrev pub FewIn : Outcome → Type 0
@@ -79,7 +79,7 @@ unfolding C.call C.step C.verdict if_then_else_
 call-few p m l Bad st = tt
 call-few p m l (Good e now) st = go (length l <? enoughRoom) (first (C.tests p e now)) refl
   where
-    go : (b : Bool) (x : Option Refusal) → first (C.tests p e now) ≡ x → FewIn ((if b then world p l (Refused OutputShort) else C.judged p l e now (C.orAt (target p e) x)) .outcome)
+    go : (b : Bool) (x : Option Refusal) → first (C.tests p e now) ≡ x → FewIn ((if b then world p l (Refused OutputShort) else C.judged p l e now (C.orAccept (target p e) x)) .outcome)
     go true x h = tt
     go false none h = event-few e (target p e) (S.withClock p now) (P.withClock m now) (clock-stands now st) (fit-clock now p (target p e) e (tests-passed st e now h .fit)) .records
     go false (some r) h = tt

@@ -14,7 +14,7 @@ use Rattle.replay.specs.declared.Day.{Day}
 use Rattle.replay.specs.Feed.{Took, View, Fed, heldMost}
 use Rattle.replay.specs.OnSlots.{Play}
 use Rattle.replay.specs.Code.{viewOf, Holds, Lined, Read}
-use Rattle.replay.specs.Days.{Told, Logged}
+use Rattle.replay.specs.Days.{Underway, Logged}
 
 same-laid : (x b : List ℕ) {n n' : ℕ} {a a' : List ℕ} → n ≡ n' → a ≡ x ++ drop n b → a' ≡ x ++ drop n' b → a ≡ a'
 same-laid x b e f g = f ∙ ap (λ (m : ℕ). x ++ drop m b) e ∙ sym g
@@ -32,7 +32,7 @@ same-day d d' e f g =
     ∙ ap (λ (x : ℕ). record { whole = d' .whole; used = x; written = d .written }) f
     ∙ ap (λ (x : ℕ). record { whole = d' .whole; used = d' .used; written = x }) g
 
-pub logged-once : (t : Told) (b : List ℕ) {a a' : List ℕ} (d d' : Day) → Logged t b a d → Logged t b a' d' → (d ≡ d') × (a ≡ a')
+pub logged-once : (t : Underway) (b : List ℕ) {a a' : List ℕ} (d d' : Day) → Logged t b a d → Logged t b a' d' → (d ≡ d') × (a ≡ a')
 logged-once t b d d' f g =
     let e = f .written ∙ sym (g .written) in
     (same-day d d' (f .whole ∙ sym (g .whole)) (f .used ∙ sym (g .used)) e, same-laid (t .took .out) b e (f .laid) (g .laid))

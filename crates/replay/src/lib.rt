@@ -17,12 +17,12 @@ ghost use Rattle.replay.specs.Days.{dayIn, Logged};
 ghost use Rattle.replay.specs.Code.{playOf, viewOf, heldOf, Able, Opens, Lined, Holds, Kept, Pieced, Read};
 use definition::Options;
 use definition::Refusal;
-use slots::Cells;
+use slots::Numbers;
 use slots::Head;
 use slots::Outcome;
 use slots::QUEUE;
 use slots::SLOTS;
-use slots::Seats;
+use slots::States;
 use slots::Times;
 use slots::Waiters;
 use text::Given;
@@ -75,23 +75,23 @@ fn ended(pace: Pace, head: Head) -> Taken
 fn take_first(
     pace: Pace,
     head: Head,
-    cells: &mut Cells,
+    numbers: &mut Numbers,
     times: &mut Times,
-    seats: &mut Seats,
+    states: &mut States,
     waiters: &mut Waiters,
     l: &[u8],
     o: &mut [u8],
 ) -> Taken
     requires { ⌜ lineRoom ≤ length (now o) ⌝ }
-    ensures { λ r. ⌜ Opens pace (before head cells times seats waiters) (optionsOfLine (now (l .entry))) (now (o .entry)) (now (o .exit)) (r .pace) (after (r .head) cells times seats waiters) (r .written) ⌝ }
+    ensures { λ r. ⌜ Opens pace (before head numbers times states waiters) (optionsOfLine (now (l .entry))) (now (o .entry)) (now (o .exit)) (r .pace) (after (r .head) numbers times states waiters) (r .written) ⌝ }
 {
     match text::line_options(l) {
         Given::Options(p) => {
             let q = pool::with_defaults(p);
             if pool::in_range(q) {
-                *cells = [0; 2 * SLOTS];
+                *numbers = [0; 2 * SLOTS];
                 *times = [0; SLOTS];
-                *seats = [0; 2 * SLOTS];
+                *states = [0; 2 * SLOTS];
                 *waiters = [0; QUEUE];
                 let h = pool::fresh_head(q);
                 Taken {
@@ -135,19 +135,19 @@ fn counted(pace: Pace, head: Head, written: usize) -> Taken
 fn take_frame(
     pace: Pace,
     head: Head,
-    cells: &mut Cells,
+    numbers: &mut Numbers,
     times: &mut Times,
-    seats: &mut Seats,
+    states: &mut States,
     waiters: &mut Waiters,
     l: &[u8],
     scratch: &mut [u8],
     o: &mut [u8],
 ) -> Taken
-    requires { ⌜ (pace .used < pace .budget) × Formed (given head cells times seats waiters) × (enoughRoom ≤ length (now scratch)) × (lineRoom ≤ length (now o)) ⌝ }
-    ensures { λ r. ⌜ Lined (answered (playOf pace (before head cells times seats waiters) (now (scratch .entry))) (call (before head cells times seats waiters) (now (scratch .entry)) (frameOfLine (now (l .entry))))) (now (o .entry)) (now (o .exit)) (playOf (r .pace) (after (r .head) cells times seats waiters) (now (scratch .exit))) (r .written) ⌝ }
+    requires { ⌜ (pace .used < pace .budget) × Formed (given head numbers times states waiters) × (enoughRoom ≤ length (now scratch)) × (lineRoom ≤ length (now o)) ⌝ }
+    ensures { λ r. ⌜ Lined (answered (playOf pace (before head numbers times states waiters) (now (scratch .entry))) (call (before head numbers times states waiters) (now (scratch .entry)) (frameOfLine (now (l .entry))))) (now (o .entry)) (now (o .exit)) (playOf (r .pace) (after (r .head) numbers times states waiters) (now (scratch .exit))) (r .written) ⌝ }
 {
     let f = text::line_frame(l);
-    let a = event::call(head, cells, times, seats, waiters, scratch, f);
+    let a = event::call(head, numbers, times, states, waiters, scratch, f);
     let h = a.head;
     let answer = a.outcome;
     match answer {
@@ -167,23 +167,23 @@ fn take_frame(
 pub fn take_line(
     pace: Pace,
     head: Head,
-    cells: &mut Cells,
+    numbers: &mut Numbers,
     times: &mut Times,
-    seats: &mut Seats,
+    states: &mut States,
     waiters: &mut Waiters,
     l: &[u8],
     scratch: &mut [u8],
     o: &mut [u8],
 ) -> Taken
-    requires { ⌜ Able (pace .phase) (given head cells times seats waiters) × (enoughRoom ≤ length (now scratch)) × (lineRoom ≤ length (now o)) ⌝ }
-    ensures { λ r. ⌜ Lined (lineSlots (playOf pace (before head cells times seats waiters) (now (scratch .entry))) (now (l .entry))) (now (o .entry)) (now (o .exit)) (playOf (r .pace) (after (r .head) cells times seats waiters) (now (scratch .exit))) (r .written) ⌝ }
+    requires { ⌜ Able (pace .phase) (given head numbers times states waiters) × (enoughRoom ≤ length (now scratch)) × (lineRoom ≤ length (now o)) ⌝ }
+    ensures { λ r. ⌜ Lined (lineSlots (playOf pace (before head numbers times states waiters) (now (scratch .entry))) (now (l .entry))) (now (o .entry)) (now (o .exit)) (playOf (r .pace) (after (r .head) numbers times states waiters) (now (scratch .exit))) (r .written) ⌝ }
 {
     let phase = pace.phase;
     match phase {
-        Phase::First => take_first(pace, head, cells, times, seats, waiters, l, o),
+        Phase::First => take_first(pace, head, numbers, times, states, waiters, l, o),
         Phase::Going => {
             if pace.used < pace.budget {
-                take_frame(pace, head, cells, times, seats, waiters, l, scratch, o)
+                take_frame(pace, head, numbers, times, states, waiters, l, scratch, o)
             } else {
                 Taken {
                     pace: pace,
@@ -293,16 +293,16 @@ fn take_piece(
     head: Head,
     held: [u8; 50],
     count: usize,
-    cells: &mut Cells,
+    numbers: &mut Numbers,
     times: &mut Times,
-    seats: &mut Seats,
+    states: &mut States,
     waiters: &mut Waiters,
     p: &[u8],
     scratch: &mut [u8],
     o: &mut [u8],
 ) -> Piece
-    requires { ⌜ Holds held count × Able (pace .phase) (given head cells times seats waiters) × (0 < length (now p)) × (enoughRoom ≤ length (now scratch)) × (lineRoom ≤ length (now o)) ⌝ }
-    ensures { λ r. ⌜ Pieced (chunkOf onSlots (heldOf (playOf pace (before head cells times seats waiters) (now (scratch .entry))) held count) (now (p .entry))) (now (o .entry)) (now (o .exit)) (playOf (r .pace) (after (r .head) cells times seats waiters) (now (scratch .exit))) (r .held) (r .count) (r .written) ⌝ }
+    requires { ⌜ Holds held count × Able (pace .phase) (given head numbers times states waiters) × (0 < length (now p)) × (enoughRoom ≤ length (now scratch)) × (lineRoom ≤ length (now o)) ⌝ }
+    ensures { λ r. ⌜ Pieced (chunkOf onSlots (heldOf (playOf pace (before head numbers times states waiters) (now (scratch .entry))) held count) (now (p .entry))) (now (o .entry)) (now (o .exit)) (playOf (r .pace) (after (r .head) numbers times states waiters) (now (scratch .exit))) (r .held) (r .count) (r .written) ⌝ }
 {
     let h = hold(held, count, p);
     let b = h.bytes;
@@ -311,9 +311,9 @@ fn take_piece(
         let k = take_line(
             pace,
             head,
-            cells,
+            numbers,
             times,
-            seats,
+            states,
             waiters,
             &b[..n],
             scratch,
@@ -351,16 +351,16 @@ pub struct Part {
 pub fn replay_some(
     run: Run,
     head: Head,
-    cells: &mut Cells,
+    numbers: &mut Numbers,
     times: &mut Times,
-    seats: &mut Seats,
+    states: &mut States,
     waiters: &mut Waiters,
     text: &[u8],
     scratch: &mut [u8],
     o: &mut [u8],
 ) -> Part
-    requires { ⌜ Kept run (given head cells times seats waiters) × (enoughRoom ≤ length (now scratch)) ⌝ }
-    ensures { λ r. ⌜ Read (goOn onSlots (length (now (o .entry))) (viewOf run (before head cells times seats waiters) (now (scratch .entry))) (now (text .entry))) (now (text .entry)) (now (o .entry)) (now (o .exit)) (r .run) (after (r .head) cells times seats waiters) (now (scratch .exit)) (r .read) (r .written) ⌝ }
+    requires { ⌜ Kept run (given head numbers times states waiters) × (enoughRoom ≤ length (now scratch)) ⌝ }
+    ensures { λ r. ⌜ Read (goOn onSlots (length (now (o .entry))) (viewOf run (before head numbers times states waiters) (now (scratch .entry))) (now (text .entry))) (now (text .entry)) (now (o .entry)) (now (o .exit)) (r .run) (after (r .head) numbers times states waiters) (now (scratch .exit)) (r .read) (r .written) ⌝ }
 {
     let mut pace = run.pace;
     let mut h = head;
@@ -374,9 +374,9 @@ pub fn replay_some(
             let k = take_line(
                 pace,
                 h,
-                cells,
+                numbers,
                 times,
-                seats,
+                states,
                 waiters,
                 &text[at..e],
                 scratch,
@@ -391,9 +391,9 @@ pub fn replay_some(
                 h,
                 held,
                 count,
-                cells,
+                numbers,
                 times,
-                seats,
+                states,
                 waiters,
                 &text[at..e],
                 scratch,
@@ -450,15 +450,15 @@ pub fn no_head() -> Head
 pub fn finish(
     run: Run,
     head: Head,
-    cells: &mut Cells,
+    numbers: &mut Numbers,
     times: &mut Times,
-    seats: &mut Seats,
+    states: &mut States,
     waiters: &mut Waiters,
     scratch: &mut [u8],
     o: &mut [u8],
 ) -> Taken
-    requires { ⌜ Kept run (given head cells times seats waiters) × (enoughRoom ≤ length (now scratch)) × (lineRoom ≤ length (now o)) ⌝ }
-    ensures { λ r. ⌜ Lined (finish onSlots (playOf (run .pace) (before head cells times seats waiters) (now (scratch .entry))) (take (run .count) (run .held))) (now (o .entry)) (now (o .exit)) (playOf (r .pace) (after (r .head) cells times seats waiters) (now (scratch .exit))) (r .written) ⌝ }
+    requires { ⌜ Kept run (given head numbers times states waiters) × (enoughRoom ≤ length (now scratch)) × (lineRoom ≤ length (now o)) ⌝ }
+    ensures { λ r. ⌜ Lined (finish onSlots (playOf (run .pace) (before head numbers times states waiters) (now (scratch .entry))) (take (run .count) (run .held))) (now (o .entry)) (now (o .exit)) (playOf (r .pace) (after (r .head) numbers times states waiters) (now (scratch .exit))) (r .written) ⌝ }
 {
     let pace = run.pace;
     let b = run.held;
@@ -485,9 +485,9 @@ pub fn finish(
         take_line(
             pace,
             head,
-            cells,
+            numbers,
             times,
-            seats,
+            states,
             waiters,
             &b[..n],
             scratch,
@@ -509,9 +509,9 @@ pub struct Day {
 pub fn replay_day(budget: u64, text: &[u8], o: &mut [u8]) -> Day
     ensures { λ r. ⌜ Logged (dayIn (length (now (o .entry))) budget (now (text .entry))) (now (o .entry)) (now (o .exit)) r ⌝ }
 {
-    let mut cells: Cells = [0; 2 * SLOTS];
+    let mut numbers: Numbers = [0; 2 * SLOTS];
     let mut times: Times = [0; SLOTS];
-    let mut seats: Seats = [0; 2 * SLOTS];
+    let mut states: States = [0; 2 * SLOTS];
     let mut waiters: Waiters = [0; QUEUE];
     let mut scratch = [0u8; 8192];
     let run = begin(budget);
@@ -519,9 +519,9 @@ pub fn replay_day(budget: u64, text: &[u8], o: &mut [u8]) -> Day
     let p = replay_some(
         run,
         head,
-        &mut cells,
+        &mut numbers,
         &mut times,
-        &mut seats,
+        &mut states,
         &mut waiters,
         text,
         &mut scratch,
@@ -535,9 +535,9 @@ pub fn replay_day(budget: u64, text: &[u8], o: &mut [u8]) -> Day
             let k = finish(
                 r,
                 h,
-                &mut cells,
+                &mut numbers,
                 &mut times,
-                &mut seats,
+                &mut states,
                 &mut waiters,
                 &mut scratch,
                 &mut o[n..],

@@ -13,11 +13,11 @@ use libc::STDERR_FILENO;
 use libc::STDIN_FILENO;
 use libc::STDOUT_FILENO;
 use replay::Run;
-use slots::Cells;
+use slots::Numbers;
 use slots::Head;
 use slots::QUEUE;
 use slots::SLOTS;
-use slots::Seats;
+use slots::States;
 use slots::Times;
 use slots::Waiters;
 
@@ -43,16 +43,16 @@ fn put(bytes: &[u8]) -> bool {
 fn drain(
     run: Run,
     head: Head,
-    cells: &mut Cells,
+    numbers: &mut Numbers,
     times: &mut Times,
-    seats: &mut Seats,
+    states: &mut States,
     waiters: &mut Waiters,
     text: &[u8],
     scratch: &mut [u8],
     out: &mut [u8],
 ) -> Step
-    requires { ⌜ Kept run (given head cells times seats waiters) × (enoughRoom ≤ length (now scratch)) × (lineRoom ≤ length (now out)) ⌝ }
-    ensures { λ r. ⌜ Kept (r .run) (after (r .head) cells times seats waiters) ⌝ }
+    requires { ⌜ Kept run (given head numbers times states waiters) × (enoughRoom ≤ length (now scratch)) × (lineRoom ≤ length (now out)) ⌝ }
+    ensures { λ r. ⌜ Kept (r .run) (after (r .head) numbers times states waiters) ⌝ }
 {
     let mut r = run;
     let mut h = head;
@@ -61,9 +61,9 @@ fn drain(
         let p = replay::replay_some(
             r,
             h,
-            cells,
+            numbers,
             times,
-            seats,
+            states,
             waiters,
             &text[at..],
             scratch,
@@ -94,9 +94,9 @@ fn drain(
 fn turn(
     run: Run,
     head: Head,
-    cells: &mut Cells,
+    numbers: &mut Numbers,
     times: &mut Times,
-    seats: &mut Seats,
+    states: &mut States,
     waiters: &mut Waiters,
     fd: i32,
     name: &[u8],
@@ -104,8 +104,8 @@ fn turn(
     scratch: &mut [u8],
     out: &mut [u8],
 ) -> Step
-    requires { ⌜ Kept run (given head cells times seats waiters) × (enoughRoom ≤ length (now scratch)) × (lineRoom ≤ length (now out)) ⌝ }
-    ensures { λ r. ⌜ Kept (r .run) (after (r .head) cells times seats waiters) ⌝ }
+    requires { ⌜ Kept run (given head numbers times states waiters) × (enoughRoom ≤ length (now scratch)) × (lineRoom ≤ length (now out)) ⌝ }
+    ensures { λ r. ⌜ Kept (r .run) (after (r .head) numbers times states waiters) ⌝ }
 {
     let got = libc::read(fd, buf);
     if got < 0 {
@@ -129,9 +129,9 @@ fn turn(
     drain(
         run,
         head,
-        cells,
+        numbers,
         times,
-        seats,
+        states,
         waiters,
         &buf[..n],
         scratch,
@@ -143,9 +143,9 @@ fn turn(
 fn all(
     run: Run,
     head: Head,
-    cells: &mut Cells,
+    numbers: &mut Numbers,
     times: &mut Times,
-    seats: &mut Seats,
+    states: &mut States,
     waiters: &mut Waiters,
     fd: i32,
     name: &[u8],
@@ -153,8 +153,8 @@ fn all(
     scratch: &mut [u8],
     out: &mut [u8],
 ) -> Step
-    requires { ⌜ Kept run (given head cells times seats waiters) × (enoughRoom ≤ length (now scratch)) × (lineRoom ≤ length (now out)) ⌝ }
-    ensures { λ r. ⌜ Kept (r .run) (after (r .head) cells times seats waiters) ⌝ }
+    requires { ⌜ Kept run (given head numbers times states waiters) × (enoughRoom ≤ length (now scratch)) × (lineRoom ≤ length (now out)) ⌝ }
+    ensures { λ r. ⌜ Kept (r .run) (after (r .head) numbers times states waiters) ⌝ }
 {
     let mut r = run;
     let mut h = head;
@@ -163,9 +163,9 @@ fn all(
         let t = turn(
             r,
             h,
-            cells,
+            numbers,
             times,
-            seats,
+            states,
             waiters,
             fd,
             name,
@@ -196,9 +196,9 @@ fn tell_used(used: u64) {
 
 // The day behind a descriptor.
 fn play(fd: i32, name: &[u8], budget: u64, is_used: bool) {
-    let mut cells: Cells = [0; 2 * SLOTS];
+    let mut numbers: Numbers = [0; 2 * SLOTS];
     let mut times: Times = [0; SLOTS];
-    let mut seats: Seats = [0; 2 * SLOTS];
+    let mut states: States = [0; 2 * SLOTS];
     let mut waiters: Waiters = [0; QUEUE];
     let mut buf = io::large_buffer();
     let mut scratch = [0u8; 8192];
@@ -208,9 +208,9 @@ fn play(fd: i32, name: &[u8], budget: u64, is_used: bool) {
     let t = all(
         run,
         head,
-        &mut cells,
+        &mut numbers,
         &mut times,
-        &mut seats,
+        &mut states,
         &mut waiters,
         fd,
         name,
@@ -226,9 +226,9 @@ fn play(fd: i32, name: &[u8], budget: u64, is_used: bool) {
     let k = replay::finish(
         r,
         h,
-        &mut cells,
+        &mut numbers,
         &mut times,
-        &mut seats,
+        &mut states,
         &mut waiters,
         &mut scratch,
         &mut out,

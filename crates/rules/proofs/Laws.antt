@@ -10,7 +10,7 @@ use lib.Seq.{getD-set-same, getD-set-other}
 use lib.Dec.{eqb}
 use borrow.Author.Tests.{lt-ltb, le-ltb, le-leb, eq-eqb, ne-eqb}
 use Rattle.refinement.specs.Formed.{zeros}
-use Rattle.definition.specs.Pool.{most}
+use Rattle.definition.specs.Pool.{slotCount}
 use Rattle.definition.specs.Words.{_=?_}
 use Rattle.refinement.specs.Table.{by-eq}
 use Rattle.refinement.specs.Rules.{isShelved, bit}
@@ -171,26 +171,26 @@ met-more i a met low m e =
 
 -- ── the order list ──
 
-module _ (a seats : List ℕ) (i e : ℕ) (is : e ≡ getD a i 0) where
-  pub order-fails : (n : ℕ) → n ≤ most → i < n → listedAt a seats i ≡ false → false ≡ orderRight a seats n
+module _ (a states : List ℕ) (i e : ℕ) (is : e ≡ getD a i 0) where
+  pub order-fails : (n : ℕ) → n ≤ slotCount → i < n → listedAt a states i ≡ false → false ≡ orderRight a states n
   unfolding orderRight
-  order-fails n h k f = rw (le-leb n most h) (every-fails n i (listedAt a seats) k f)
+  order-fails n h k f = rw (le-leb n slotCount h) (every-fails n i (listedAt a states) k f)
 
-  pub listed-high : most ≤ e → listedAt a seats i ≡ false
-  listed-high h = rw (← is, le-ltb e most h)
+  pub listed-high : slotCount ≤ e → listedAt a states i ≡ false
+  listed-high h = rw (← is, le-ltb e slotCount h)
 
-  pub listed-unshelved : e < most → isShelved (getD seats e 0) ≡ false → listedAt a seats i ≡ false
-  listed-unshelved h k = rw (← is, lt-ltb e most h, k)
+  pub listed-unshelved : e < slotCount → isShelved (getD states e 0) ≡ false → listedAt a states i ≡ false
+  listed-unshelved h k = rw (← is, lt-ltb e slotCount h, k)
 
-  pub listed-met : e < most → isShelved (getD seats e 0) ≡ true → not (among e i a) ≡ false → listedAt a seats i ≡ false
-  listed-met h k f = rw (← is, lt-ltb e most h, k, f)
+  pub listed-met : e < slotCount → isShelved (getD states e 0) ≡ true → not (among e i a) ≡ false → listedAt a states i ≡ false
+  listed-met h k f = rw (← is, lt-ltb e slotCount h, k, f)
 
-  pub listed-new : e < most → isShelved (getD seats e 0) ≡ true → not (among e i a) ≡ true → listedAt a seats i ≡ true
-  listed-new h k f = rw (← is, lt-ltb e most h, k, f)
+  pub listed-new : e < slotCount → isShelved (getD states e 0) ≡ true → not (among e i a) ≡ true → listedAt a states i ≡ true
+  listed-new h k f = rw (← is, lt-ltb e slotCount h, k, f)
 
-pub met-none : (a : List ℕ) → Met a 0 (replicate most 0)
+pub met-none : (a : List ℕ) → Met a 0 (replicate slotCount 0)
 unfolding among
-met-none a e = rw (zeros most e)
+met-none a e = rw (zeros slotCount e)
 
 -- ── and ──
 

@@ -12,7 +12,7 @@ use Rattle.slots.specs.Slots.{vacant}
 use Rattle.slots.specs.Needs.{taken}
 use Rattle.refinement.specs.Table.{by-eq, by-bool, one, one-pos, one-zero, or-left, or-right}
 use Rattle.refinement.specs.Agree.{Class}
-use Rattle.refinement.specs.Kept.{All, Distinct, all-at}
+use Rattle.refinement.specs.Mirror.{All, Distinct, all-at}
 use Rattle.refinement.specs.Stands.{Rises}
 use Rattle.refinement.specs.Rules.{many, collect, bit, many-none, many-bit, taken-cons}
 use Rattle.rules.specs.Tests.{every, tally, among, isTaken, before}

@@ -8,7 +8,7 @@ use lib.ListN.{length, getD, take, drop}
 use lib.Seq.{getD-take, length-take-le}
 use borrow.Author.Tests.{lt-ltb, le-ltb, le-leb, eq-eqb, ne-eqb, ltb-true, leb-true, eqb-true}
 use Rattle.definition.specs.Words.{if_then_else_, _=?_, _<?_, _≤?_}
-use Rattle.definition.specs.Pool.{queueLength, inRange, most}
+use Rattle.definition.specs.Pool.{queueLength, inRange, slotCount}
 use Rattle.definition.specs.Refusals.{lastNextId}
 use Rattle.definition.specs.declared.Options.{Options}
 use Rattle.slots.specs.declared.Head.{Head}
@@ -19,7 +19,7 @@ use Rattle.slots.specs.Needs.{taken}
 use Rattle.slots.specs.Parts.{slot-at}
 use Rattle.refinement.specs.Table.{by-eq, by-lt, Unique}
 use Rattle.refinement.specs.Agree.{Class}
-use Rattle.refinement.specs.Kept.{isPending, All, Distinct, Listed, Used, all-at}
+use Rattle.refinement.specs.Mirror.{isPending, All, Distinct, Listed, Used, all-at}
 use Rattle.refinement.specs.Stands.{Limits, Rises, Formed}
 use Rattle.refinement.specs.Formed.{limits-of}
 use Rattle.refinement.specs.Rules.{Rules, isShelved, many, rules-formed, formed-rules}
@@ -31,41 +31,41 @@ use Rattle.rules.specs.Every.{and-left, and-right, both-true, or-other, 
 options-pass : (o : Options) → Limits o → inRange o ≡ true
 unfolding inRange
 options-pass o l =
-    both-true (both-true (both-true (both-true (le-leb 1 (o .maximum) (l .one)) (le-leb (o .maximum) most (l .maximum))) (le-leb (o .minimum) (o .maximum) (l .minimum))) (le-leb 1 (o .connecting) (l .connecting .0))) (le-leb (o .connecting) most (l .connecting .1))
+    both-true (both-true (both-true (both-true (le-leb 1 (o .maximum) (l .one)) (le-leb (o .maximum) slotCount (l .maximum))) (le-leb (o .minimum) (o .maximum) (l .minimum))) (le-leb 1 (o .connecting) (l .connecting .0))) (le-leb (o .connecting) slotCount (l .connecting .1))
 
 -- ── Ids ────────────────────────────────────────────────────────────────────────────────────────────────────────────────
 
-module _ (cs : List ℕ) (l : length (take most cs) ≡ most) where
-  below-say : (next : ℕ) → idsBelow cs next ≡ true → (j : ℕ) → getD (take most cs) j 0 < next
+module _ (cs : List ℕ) (l : length (take slotCount cs) ≡ slotCount) where
+  below-say : (next : ℕ) → idsBelow cs next ≡ true → (j : ℕ) → getD (take slotCount cs) j 0 < next
   unfolding idsBelow
   below-say next h j =
-      let at : (i : ℕ) → i < most → getD cs i 0 < next = λ i k. ltb-true (getD cs i 0) next (every-all most (λ i. getD cs i 0 <? next) h i k) in
-      by-lt j most (λ k. omega (arith, getD-take most cs j 0 k, at j k)) (λ k. omega (arith, past (take most cs) 0 j (omega arith), at 0 (omega arith)))
+      let at : (i : ℕ) → i < slotCount → getD cs i 0 < next = λ i k. ltb-true (getD cs i 0) next (every-all slotCount (λ i. getD cs i 0 <? next) h i k) in
+      by-lt j slotCount (λ k. omega (arith, getD-take slotCount cs j 0 k, at j k)) (λ k. omega (arith, past (take slotCount cs) 0 j (omega arith), at 0 (omega arith)))
 
-  below-pass : (next : ℕ) → ((j : ℕ) → getD (take most cs) j 0 < next) → idsBelow cs next ≡ true
+  below-pass : (next : ℕ) → ((j : ℕ) → getD (take slotCount cs) j 0 < next) → idsBelow cs next ≡ true
   unfolding idsBelow
-  below-pass next h = all-every most (λ i. getD cs i 0 <? next) (λ j k. lt-ltb (getD cs j 0) next (omega (arith, getD-take most cs j 0 k, h j)))
+  below-pass next h = all-every slotCount (λ i. getD cs i 0 <? next) (λ j k. lt-ltb (getD cs j 0) next (omega (arith, getD-take slotCount cs j 0 k, h j)))
 
-  new-say : idsDistinct cs ≡ true → (i j : ℕ) → i < j → j < most → 0 < getD cs j 0 → getD cs i 0 ≡ getD cs j 0 → ⊥
+  new-say : idsDistinct cs ≡ true → (i j : ℕ) → i < j → j < slotCount → 0 < getD cs j 0 → getD cs i 0 ≡ getD cs j 0 → ⊥
   unfolding idsDistinct
   new-say h i j k low z e =
       let n : getD cs j 0 ≡ 0 → ⊥ = λ q. omega arith in
-      not-among (getD cs j 0) j cs (or-other (getD cs j 0 =? 0) (not (among (getD cs j 0) j cs)) (ne-eqb (getD cs j 0) 0 n) (every-all most (newId cs) h j low)) i k e
+      not-among (getD cs j 0) j cs (or-other (getD cs j 0 =? 0) (not (among (getD cs j 0) j cs)) (ne-eqb (getD cs j 0) 0 n) (every-all slotCount (newId cs) h j low)) i k e
 
-  distinct-say : idsDistinct cs ≡ true → Unique (take most cs)
+  distinct-say : idsDistinct cs ≡ true → Unique (take slotCount cs)
   distinct-say h i j a b z e =
-      let x = getD-take most cs i 0 (omega arith) in
-      let y = getD-take most cs j 0 (omega arith) in
+      let x = getD-take slotCount cs i 0 (omega arith) in
+      let y = getD-take slotCount cs j 0 (omega arith) in
       let s : getD cs i 0 ≡ getD cs j 0 = sym x ∙ e ∙ y in
       by-eq i j (λ q. q) (λ q. by-lt i j (λ k. absurd (new-say h i j k (omega arith) (omega (arith, x)) s)) (λ k. absurd (new-say h j i (omega (arith, q)) (omega arith) (omega (arith, x)) (sym s))))
 
-  distinct-pass : Unique (take most cs) → idsDistinct cs ≡ true
+  distinct-pass : Unique (take slotCount cs) → idsDistinct cs ≡ true
   unfolding idsDistinct
-  distinct-pass u = all-every most (newId cs) (λ i k. by-eq (getD cs i 0) 0
+  distinct-pass u = all-every slotCount (newId cs) (λ i k. by-eq (getD cs i 0) 0
       (λ z. rw (eq-eqb (getD cs i 0) 0 z))
       (λ z. rw (ne-eqb (getD cs i 0) 0 z) (new-among (getD cs i 0) i cs (λ j m e.
-      let x = getD-take most cs i 0 k in
-      let y = getD-take most cs j 0 (omega arith) in
+      let x = getD-take slotCount cs i 0 k in
+      let y = getD-take slotCount cs j 0 (omega arith) in
       omega (arith, u i j (omega arith) (omega arith) (omega (arith, z, x)) (x ∙ sym e ∙ sym y))))))
 
 -- ── Slots ──────────────────────────────────────────────────────────────────────────────────────────────────────────────
@@ -96,32 +96,32 @@ module _ (h : Head) (cs ts ss ws : List ℕ) (w : Whole (poolOf h cs ts ss ws)) 
   abbrev P : SlotPool
   P = poolOf h cs ts ss ws
 
-  id-of : (j : ℕ) → j < most → S.idAt P j ≡ getD cs j 0
-  id-of j low = getD-take most cs j 0 low
+  id-of : (j : ℕ) → j < slotCount → S.idAt P j ≡ getD cs j 0
+  id-of j low = getD-take slotCount cs j 0 low
 
-  state-of : (j : ℕ) → j < most → S.slotAt P j .state ≡ getD ss j 0
+  state-of : (j : ℕ) → j < slotCount → S.slotAt P j .state ≡ getD ss j 0
   state-of j low = ap (λ (s : Slot). s .state) (slot-at h cs ts ss ws w j low)
 
-  fit-at : slotsFit cs ts ss ≡ true → (j : ℕ) → j < most → slotFits (getD cs j 0) (getD cs (most + j) 0) (getD ts j 0) (getD ss j 0) ≡ true
+  fit-at : slotsFit cs ts ss ≡ true → (j : ℕ) → j < slotCount → slotFits (getD cs j 0) (getD cs (slotCount + j) 0) (getD ts j 0) (getD ss j 0) ≡ true
   unfolding slotsFit
-  fit-at f = every-all most (λ i. slotFits (getD cs i 0) (getD cs (most + i) 0) (getD ts i 0) (getD ss i 0)) f
+  fit-at f = every-all slotCount (λ i. slotFits (getD cs i 0) (getD cs (slotCount + i) 0) (getD ts i 0) (getD ss i 0)) f
 
   slots-blank : slotsFit cs ts ss ≡ true → (j : ℕ) → S.idAt P j ≡ 0 → S.slotAt P j ≡ vacant
   slots-blank f j e =
-      by-lt j most
-      (λ k. slot-at h cs ts ss ws w j k ∙ vacant-say (getD cs j 0) (getD cs (most + j) 0) (getD ts j 0) (getD ss j 0) (sym (id-of j k) ∙ e) (fit-at f j k))
+      by-lt j slotCount
+      (λ k. slot-at h cs ts ss ws w j k ∙ vacant-say (getD cs j 0) (getD cs (slotCount + j) 0) (getD ts j 0) (getD ss j 0) (sym (id-of j k) ∙ e) (fit-at f j k))
       (λ k. past (P .slots) vacant j (omega (arith, w .slots)))
 
   slots-used : slotsFit cs ts ss ≡ true → (j : ℕ) → 0 < S.idAt P j → Used (S.slotAt P j)
   slots-used f j z =
-      by-lt j most
-      (λ k. let r = used-say (getD cs j 0) (getD cs (most + j) 0) (getD ts j 0) (getD ss j 0) (omega (arith, id-of j k)) (fit-at f j k) in (omega (arith, state-of j k, r .0), omega (arith, state-of j k, r .1)))
+      by-lt j slotCount
+      (λ k. let r = used-say (getD cs j 0) (getD cs (slotCount + j) 0) (getD ts j 0) (getD ss j 0) (omega (arith, id-of j k)) (fit-at f j k) in (omega (arith, state-of j k, r .0), omega (arith, state-of j k, r .1)))
       (λ k. absurd (omega (arith, past (P .ids) 0 j (omega (arith, w .ids)))))
 
   slots-pass : ((j : ℕ) → S.idAt P j ≡ 0 → S.slotAt P j ≡ vacant) → ((j : ℕ) → 0 < S.idAt P j → Used (S.slotAt P j)) → slotsFit cs ts ss ≡ true
   unfolding slotsFit
-  slots-pass b u = all-every most (λ i. slotFits (getD cs i 0) (getD cs (most + i) 0) (getD ts i 0) (getD ss i 0)) (λ j k.
-      let g = getD cs (most + j) 0 in
+  slots-pass b u = all-every slotCount (λ i. slotFits (getD cs i 0) (getD cs (slotCount + i) 0) (getD ts i 0) (getD ss i 0)) (λ j k.
+      let g = getD cs (slotCount + j) 0 in
       let t = getD ts j 0 in
       let s = getD ss j 0 in
       by-eq (getD cs j 0) 0
@@ -132,63 +132,63 @@ module _ (h : Head) (cs ts ss ws : List ℕ) (w : Whole (poolOf h cs ts ss ws)) 
 
   -- ── Counts ──
 
-  states : (t : Class) → howMany t ss ≡ tally (length (P .ids)) (kinds t (P .slots))
-  states t = tally-same most (λ i. t (getD ss i 0)) (kinds t (P .slots)) (λ j k. ap t (sym (state-of j k))) ∙ ap (λ (n : ℕ). tally n (kinds t (P .slots))) (sym (w .ids))
+  states-counted : (t : Class) → howMany t ss ≡ tally (length (P .ids)) (kinds t (P .slots))
+  states-counted t = tally-same slotCount (λ i. t (getD ss i 0)) (kinds t (P .slots)) (λ j k. ap t (sym (state-of j k))) ∙ ap (λ (n : ℕ). tally n (kinds t (P .slots))) (sym (w .ids))
 
   module _ (b : (j : ℕ) → S.idAt P j ≡ 0 → S.slotAt P j ≡ vacant) where
     how-many : (t : Class) → t 0 ≡ false → howMany t ss ≡ many t (P .ids) (P .slots)
-    how-many t f = states t ∙ sym (many-tally t (P .ids) (P .slots) (omega (arith, w .ids, w .slots)) (λ j e. ap (λ (s : Slot). t (s .state)) (b j e) ∙ f))
+    how-many t f = states-counted t ∙ sym (many-tally t (P .ids) (P .slots) (omega (arith, w .ids, w .slots)) (λ j e. ap (λ (s : Slot). t (s .state)) (b j e) ∙ f))
 
     how-taken : ((j : ℕ) → 0 < S.idAt P j → Used (S.slotAt P j)) → howMany isTaken ss ≡ taken (P .ids)
-    how-taken u = states isTaken ∙ sym (taken-tally (P .ids) (P .slots) (omega (arith, w .ids, w .slots))
+    how-taken u = states-counted isTaken ∙ sym (taken-tally (P .ids) (P .slots) (omega (arith, w .ids, w .slots))
         (λ j e. ap (λ (s : Slot). isTaken (s .state)) (b j e))
         (λ j z. ap not (ne-eqb (S.slotAt P j .state) 0 (λ q. omega (arith, u j z .0)))))
 
   -- ── The order list ──
 
-  order-fits : orderRight (drop most ss) ss (h .«available_count») ≡ true → h .«available_count» ≤ most
+  order-fits : orderRight (drop slotCount ss) ss (h .«available_count») ≡ true → h .«available_count» ≤ slotCount
   unfolding orderRight
-  order-fits t = leb-true (h .«available_count») most (and-left (h .«available_count» ≤? most) (every (h .«available_count») (listedAt (drop most ss) ss)) t)
+  order-fits t = leb-true (h .«available_count») slotCount (and-left (h .«available_count» ≤? slotCount) (every (h .«available_count») (listedAt (drop slotCount ss) ss)) t)
 
-  order-at : orderRight (drop most ss) ss (h .«available_count») ≡ true → (j : ℕ) → j < h .«available_count» → listedAt (drop most ss) ss j ≡ true
+  order-at : orderRight (drop slotCount ss) ss (h .«available_count») ≡ true → (j : ℕ) → j < h .«available_count» → listedAt (drop slotCount ss) ss j ≡ true
   unfolding orderRight
-  order-at t = every-all (h .«available_count») (listedAt (drop most ss) ss) (and-right (h .«available_count» ≤? most) (every (h .«available_count») (listedAt (drop most ss) ss)) t)
+  order-at t = every-all (h .«available_count») (listedAt (drop slotCount ss) ss) (and-right (h .«available_count» ≤? slotCount) (every (h .«available_count») (listedAt (drop slotCount ss) ss)) t)
 
-  order-long : h .«available_count» ≤ most → length (take (h .«available_count») (drop most ss)) ≡ h .«available_count»
-  order-long f = length-take-le (h .«available_count») (drop most ss) (omega (arith, w .available))
+  order-long : h .«available_count» ≤ slotCount → length (take (h .«available_count») (drop slotCount ss)) ≡ h .«available_count»
+  order-long f = length-take-le (h .«available_count») (drop slotCount ss) (omega (arith, w .available))
 
-  order-listed : ((j : ℕ) → S.idAt P j ≡ 0 → S.slotAt P j ≡ vacant) → orderRight (drop most ss) ss (h .«available_count») ≡ true → All (Listed (P .ids) (P .slots)) (take (h .«available_count») (drop most ss))
+  order-listed : ((j : ℕ) → S.idAt P j ≡ 0 → S.slotAt P j ≡ vacant) → orderRight (drop slotCount ss) ss (h .«available_count») ≡ true → All (Listed (P .ids) (P .slots)) (take (h .«available_count») (drop slotCount ss))
   order-listed b t =
       let n = h .«available_count» in
-      let a = drop most ss in
+      let a = drop slotCount ss in
       all-of (Listed (P .ids) (P .slots)) (take n a) (λ j k.
       let low : j < n = omega (arith, order-long (order-fits t)) in
       let e = getD a j 0 in
       let q = order-at t j low in
-      let r = and-right (e <? most) (isShelved (getD ss e 0) && not (among e j a)) q in
-      let i : e < most = ltb-true e most (and-left (e <? most) (isShelved (getD ss e 0) && not (among e j a)) q) in
+      let r = and-right (e <? slotCount) (isShelved (getD ss e 0) && not (among e j a)) q in
+      let i : e < slotCount = ltb-true e slotCount (and-left (e <? slotCount) (isShelved (getD ss e 0) && not (among e j a)) q) in
       let s : S.slotAt P e .state ≡ 1 = state-of e i ∙ eqb-true (getD ss e 0) 1 (and-left (isShelved (getD ss e 0)) (not (among e j a)) r) in
       rw (getD-take n a j 0 low) (i, by-eq (S.idAt P e) 0 (λ z. absurd (omega (arith, s, ap (λ (x : Slot). x .state) (b e z)))) (λ z. omega (arith, z)), s))
 
-  order-distinct : orderRight (drop most ss) ss (h .«available_count») ≡ true → Distinct (take (h .«available_count») (drop most ss))
+  order-distinct : orderRight (drop slotCount ss) ss (h .«available_count») ≡ true → Distinct (take (h .«available_count») (drop slotCount ss))
   order-distinct t =
       let n = h .«available_count» in
-      let a = drop most ss in
+      let a = drop slotCount ss in
       distinct-of (take n a) (λ i j k m e.
       let low : j < n = omega (arith, order-long (order-fits t)) in
       let x = getD a j 0 in
-      let r = and-right (x <? most) (isShelved (getD ss x 0) && not (among x j a)) (order-at t j low) in
+      let r = and-right (x <? slotCount) (isShelved (getD ss x 0) && not (among x j a)) (order-at t j low) in
       not-among x j a (and-right (isShelved (getD ss x 0)) (not (among x j a)) r) i k (sym (getD-take n a i 0 (omega arith)) ∙ e ∙ getD-take n a j 0 low))
 
-  order-pass : h .«available_count» ≤ most → All (Listed (P .ids) (P .slots)) (take (h .«available_count») (drop most ss)) → Distinct (take (h .«available_count») (drop most ss)) → orderRight (drop most ss) ss (h .«available_count») ≡ true
+  order-pass : h .«available_count» ≤ slotCount → All (Listed (P .ids) (P .slots)) (take (h .«available_count») (drop slotCount ss)) → Distinct (take (h .«available_count») (drop slotCount ss)) → orderRight (drop slotCount ss) ss (h .«available_count») ≡ true
   unfolding orderRight
   order-pass f al d =
       let n = h .«available_count» in
-      let a = drop most ss in
-      both-true (le-leb n most f) (all-every n (listedAt a ss) (λ j low.
+      let a = drop slotCount ss in
+      both-true (le-leb n slotCount f) (all-every n (listedAt a ss) (λ j low.
       let k : j < length (take n a) = omega (arith, order-long f) in
       let v : Listed (P .ids) (P .slots) (getD a j 0) = rw (getD-take n a j 0 low) at (all-at (Listed (P .ids) (P .slots)) (take n a) al j k) in
-      both-true (lt-ltb (getD a j 0) most (v .0)) (both-true (eq-eqb (getD ss (getD a j 0) 0) 1 (sym (state-of (getD a j 0) (v .0)) ∙ v .2)) (new-among (getD a j 0) j a (λ i q e.
+      both-true (lt-ltb (getD a j 0) slotCount (v .0)) (both-true (eq-eqb (getD ss (getD a j 0) 0) 1 (sym (state-of (getD a j 0) (v .0)) ∙ v .2)) (new-among (getD a j 0) j a (λ i q e.
       distinct-has (take n a) d i j q k (getD-take n a i 0 (omega arith) ∙ e ∙ sym (getD-take n a j 0 low)))))))
 
 counts-say : (ss : List ℕ) (total pending available : ℕ) → countsRight ss total pending available ≡ true
@@ -271,7 +271,7 @@ module _ (h : Head) (cs ts ss ws : List ℕ) (w : Whole (poolOf h cs ts ss ws)) 
       let n = h .«available_count» in
       let m = h .«waiting_count» in
       let t = ten (inRange (h .options)) (next ≤? lastNextId + 65) (idsBelow cs next) (idsDistinct cs) (slotsFit cs ts ss)
-      (countsRight ss (h .«total_connection_count») (h .«pending_connection_count») n) (orderRight (drop most ss) ss n) (blankFrom most n (drop most ss)) (queueRises ws m (h .«last_request»)) (blankFrom queueLength m ws) q in
+      (countsRight ss (h .«total_connection_count») (h .«pending_connection_count») n) (orderRight (drop slotCount ss) ss n) (blankFrom slotCount n (drop slotCount ss)) (queueRises ws m (h .«last_request»)) (blankFrom queueLength m ws) q in
       let b = slots-blank h cs ts ss ws w (t .4) in
       let u = slots-used h cs ts ss ws w (t .4) in
       let c = counts-say ss (h .«total_connection_count») (h .«pending_connection_count») n (t .5) in
@@ -285,7 +285,7 @@ module _ (h : Head) (cs ts ss ws : List ℕ) (w : Whole (poolOf h cs ts ss ws)) 
         fits = order-fits h cs ts ss ws w (t .6);
         listed = order-listed h cs ts ss ws w b (t .6);
         distinct = order-distinct h cs ts ss ws w (t .6);
-        rest = blank-say most n (drop most ss) (w .available) (t .7);
+        rest = blank-say slotCount n (drop slotCount ss) (w .available) (t .7);
         shelved = sym (c .2) ∙ how-many h cs ts ss ws w b isShelved refl;
         pending = sym (c .1) ∙ how-many h cs ts ss ws w b isPending refl;
         total = sym (c .0) ∙ how-taken h cs ts ss ws w b u;
@@ -313,7 +313,7 @@ module _ (h : Head) (cs ts ss ws : List ℕ) (w : Whole (poolOf h cs ts ss ws)) 
       (how-taken h cs ts ss ws w (r .blank) (r .used) ∙ sym (r .total))
       (how-many h cs ts ss ws w (r .blank) isPending refl ∙ sym (r .pending))
       (how-many h cs ts ss ws w (r .blank) isShelved refl ∙ sym (r .shelved)))
-      (both-true (order-pass h cs ts ss ws w (r .fits) (r .listed) (r .distinct)) (blank-pass most n (drop most ss) (r .rest))))
+      (both-true (order-pass h cs ts ss ws w (r .fits) (r .listed) (r .distinct)) (blank-pass slotCount n (drop slotCount ss) (r .rest))))
       (both-true (queue-pass ws m (h .«last_request») (w .waiters) (r .queue) (r .rises)) (blank-pass queueLength m ws (r .queueRest))))
 
 -- ── What the test says ─────────────────────────────────────────────────────────────────────────────────────────────────

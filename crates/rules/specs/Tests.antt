@@ -4,11 +4,11 @@ use mathlib.Core.List.{List}
 use Prim.Native.Nat.{ℕ, zero, suc, _+_, _/_}
 use lib.ListN.{getD, drop}
 use Rattle.definition.specs.Words.{if_then_else_, _=?_, _<?_, _≤?_}
-use Rattle.definition.specs.Pool.{queueLength, most, inRange}
+use Rattle.definition.specs.Pool.{queueLength, slotCount, inRange}
 use Rattle.definition.specs.Refusals.{lastNextId}
 use Rattle.slots.specs.declared.Head.{Head}
 use Rattle.refinement.specs.Agree.{Class}
-use Rattle.refinement.specs.Kept.{isPending}
+use Rattle.refinement.specs.Mirror.{isPending}
 use Rattle.refinement.specs.Rules.{isShelved, bit}
 
 -- ── Words: of all places below n; how many of them; among the first n ──────────────────────────────────────────────────
@@ -49,30 +49,30 @@ waiterFits b id last = b <? id && id ≤? last
 -- ── The rules ──────────────────────────────────────────────────────────────────────────────────────────────────────────
 
 unfoldable pub idsBelow : List ℕ → ℕ → Bool
-idsBelow cells next = every most (λ i. getD cells i 0 <? next)
+idsBelow numbers next = every slotCount (λ i. getD numbers i 0 <? next)
 
 -- an id that is not 0 is not among those before it
 abbrev pub newId : List ℕ → ℕ → Bool
-newId cells i = getD cells i 0 =? 0 || not (among (getD cells i 0) i cells)
+newId numbers i = getD numbers i 0 =? 0 || not (among (getD numbers i 0) i numbers)
 
 unfoldable pub idsDistinct : List ℕ → Bool
-idsDistinct cells = every most (newId cells)
+idsDistinct numbers = every slotCount (newId numbers)
 
 unfoldable pub slotsFit : List ℕ → List ℕ → List ℕ → Bool
-slotsFit cells times seats = every most (λ i. slotFits (getD cells i 0) (getD cells (most + i) 0) (getD times i 0) (getD seats i 0))
+slotsFit numbers times states = every slotCount (λ i. slotFits (getD numbers i 0) (getD numbers (slotCount + i) 0) (getD times i 0) (getD states i 0))
 
 abbrev pub howMany : Class → List ℕ → ℕ
-howMany t seats = tally most (λ i. t (getD seats i 0))
+howMany t states = tally slotCount (λ i. t (getD states i 0))
 
 unfoldable pub countsRight : List ℕ → ℕ → ℕ → ℕ → Bool
-countsRight seats total pending available = howMany isTaken seats =? total && (howMany isPending seats =? pending && howMany isShelved seats =? available)
+countsRight states total pending available = howMany isTaken states =? total && (howMany isPending states =? pending && howMany isShelved states =? available)
 
 -- what place i of the order list names is a slot, checked in, and not named before
 abbrev pub listedAt : List ℕ → List ℕ → ℕ → Bool
-listedAt order seats i = getD order i 0 <? most && (isShelved (getD seats (getD order i 0) 0) && not (among (getD order i 0) i order))
+listedAt order states i = getD order i 0 <? slotCount && (isShelved (getD states (getD order i 0) 0) && not (among (getD order i 0) i order))
 
 unfoldable pub orderRight : List ℕ → List ℕ → ℕ → Bool
-orderRight order seats n = n ≤? most && every n (listedAt order seats)
+orderRight order states n = n ≤? slotCount && every n (listedAt order states)
 
 unfoldable pub blankFrom : ℕ → ℕ → List ℕ → Bool
 blankFrom size n l = every size (λ i. blankPast n i (getD l i 0))
@@ -81,9 +81,9 @@ unfoldable pub queueRises : List ℕ → ℕ → ℕ → Bool
 queueRises waiters n last = n ≤? queueLength && every n (λ i. waiterFits (before 0 waiters i) (getD waiters i 0 / 4) last)
 
 unfoldable pub keepsRules : Head → List ℕ → List ℕ → List ℕ → List ℕ → Bool
-keepsRules h cells times seats waiters =
+keepsRules h numbers times states waiters =
     ((inRange (h .options) && h .«next_connection_id» ≤? lastNextId + 65)
-    && (idsBelow cells (h .«next_connection_id») && (idsDistinct cells && slotsFit cells times seats)))
-    && ((countsRight seats (h .«total_connection_count») (h .«pending_connection_count») (h .«available_count»)
-    && (orderRight (drop most seats) seats (h .«available_count») && blankFrom most (h .«available_count») (drop most seats)))
+    && (idsBelow numbers (h .«next_connection_id») && (idsDistinct numbers && slotsFit numbers times states)))
+    && ((countsRight states (h .«total_connection_count») (h .«pending_connection_count») (h .«available_count»)
+    && (orderRight (drop slotCount states) states (h .«available_count») && blankFrom slotCount (h .«available_count») (drop slotCount states)))
     && (queueRises waiters (h .«waiting_count») (h .«last_request») && blankFrom queueLength (h .«waiting_count») waiters))

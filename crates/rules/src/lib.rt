@@ -3,18 +3,18 @@ ghost use mathlib.Core.Path.{_≡_};
 ghost use mathlib.Core.Bool.{_&&_, not};
 ghost use Prim.Native.Nat.{_≤_};
 ghost use lib.ListN.{drop};
-ghost use Rattle.definition.specs.Pool.{most, queueLength};
+ghost use Rattle.definition.specs.Pool.{slotCount, queueLength};
 ghost use Rattle.definition.specs.Words.{_=?_, _<?_};
 ghost use Rattle.slots.specs.View.{Whole, given, before};
-ghost use Rattle.refinement.specs.Kept.{isPending};
+ghost use Rattle.refinement.specs.Mirror.{isPending};
 ghost use Rattle.refinement.specs.Rules.{isShelved, bit};
 ghost use Rattle.rules.specs.Tests.{among, isTaken, slotFits, waiterFits, idsBelow, idsDistinct, slotsFit, countsRight, orderRight, blankFrom, queueRises};
 ghost use Rattle.rules.specs.Exact.{Exactly};
-use slots::Cells;
+use slots::Numbers;
 use slots::Head;
 use slots::QUEUE;
 use slots::SLOTS;
-use slots::Seats;
+use slots::States;
 use slots::Times;
 use slots::Waiters;
 use words::both;
@@ -73,26 +73,26 @@ fn waiter_fits(before: u64, id: u64, last: u64) -> bool
 
 // ── the rules ──
 
-fn ids_below(cells: &Cells, next: u32) -> bool
-    ensures { λ r. ⌜ r ≡ idsBelow (now (cells .entry)) next ⌝ }
+fn ids_below(numbers: &Numbers, next: u32) -> bool
+    ensures { λ r. ⌜ r ≡ idsBelow (now (numbers .entry)) next ⌝ }
 {
     let mut ok = true;
     let mut i: usize = 0;
     while i < SLOTS {
-        ok = both(ok, below(cells[i], next));
+        ok = both(ok, below(numbers[i], next));
         i += 1;
     }
     ok
 }
 
 // Whether x stands among the first n ids.
-fn is_among(cells: &Cells, n: usize, x: u32) -> bool
-    requires { ⌜ n ≤ most ⌝ }
-    ensures { λ r. ⌜ r ≡ among x n (now (cells .entry)) ⌝ }
+fn is_among(numbers: &Numbers, n: usize, x: u32) -> bool
+    requires { ⌜ n ≤ slotCount ⌝ }
+    ensures { λ r. ⌜ r ≡ among x n (now (numbers .entry)) ⌝ }
 {
     let mut i: usize = 0;
     while i < n {
-        if cells[i] == x {
+        if numbers[i] == x {
             return true;
         }
         i += 1;
@@ -101,9 +101,9 @@ fn is_among(cells: &Cells, n: usize, x: u32) -> bool
 }
 
 // Whether the id x stands among the first n, where a mark says that it may.
-fn clashes(cells: &Cells, n: usize, x: u32, mark: u8) -> bool
-    requires { ⌜ n ≤ most ⌝ }
-    ensures { λ r. ⌜ r ≡ not (mark =? 0) && (not (x =? 0) && among x n (now (cells .entry))) ⌝ }
+fn clashes(numbers: &Numbers, n: usize, x: u32, mark: u8) -> bool
+    requires { ⌜ n ≤ slotCount ⌝ }
+    ensures { λ r. ⌜ r ≡ not (mark =? 0) && (not (x =? 0) && among x n (now (numbers .entry))) ⌝ }
 {
     if mark == 0 {
         return false;
@@ -111,20 +111,20 @@ fn clashes(cells: &Cells, n: usize, x: u32, mark: u8) -> bool
     if x == 0 {
         return false;
     }
-    is_among(cells, n, x)
+    is_among(numbers, n, x)
 }
 
 // A mark for each remainder: only where one is met again are the ids before looked through.
-fn ids_distinct(cells: &Cells) -> bool
-    ensures { λ r. ⌜ r ≡ idsDistinct (now (cells .entry)) ⌝ }
+fn ids_distinct(numbers: &Numbers) -> bool
+    ensures { λ r. ⌜ r ≡ idsDistinct (now (numbers .entry)) ⌝ }
 {
     let mut marks: [u8; 256] = [0; 256];
     let mut i: usize = 0;
     while i < SLOTS {
-        let x = cells[i];
+        let x = numbers[i];
         let h = (x % 256) as usize;
         let mark = marks[h];
-        if clashes(cells, i, x, mark) {
+        if clashes(numbers, i, x, mark) {
             return false;
         }
         marks[h] = 1;
@@ -134,30 +134,30 @@ fn ids_distinct(cells: &Cells) -> bool
 }
 
 // A slot without an id is vacant, a slot with one is not.
-fn slots_fit(cells: &Cells, times: &Times, seats: &Seats) -> bool
-    ensures { λ r. ⌜ r ≡ slotsFit (now (cells .entry)) (now (times .entry)) (now (seats .entry)) ⌝ }
+fn slots_fit(numbers: &Numbers, times: &Times, states: &States) -> bool
+    ensures { λ r. ⌜ r ≡ slotsFit (now (numbers .entry)) (now (times .entry)) (now (states .entry)) ⌝ }
 {
     let mut ok = true;
     let mut i: usize = 0;
     while i < SLOTS {
         ok = both(
             ok,
-            slot_fits(cells[i], cells[SLOTS + i], times[i], seats[i]),
+            slot_fits(numbers[i], numbers[SLOTS + i], times[i], states[i]),
         );
         i += 1;
     }
     ok
 }
 
-fn counts_right(seats: &Seats, total: u32, pending: u32, available: usize) -> bool
-    ensures { λ r. ⌜ r ≡ countsRight (now (seats .entry)) total pending available ⌝ }
+fn counts_right(states: &States, total: u32, pending: u32, available: usize) -> bool
+    ensures { λ r. ⌜ r ≡ countsRight (now (states .entry)) total pending available ⌝ }
 {
     let mut taken: u32 = 0;
     let mut waits: u32 = 0;
     let mut shelved: u32 = 0;
     let mut i: usize = 0;
     while i < SLOTS {
-        let k = seats[i];
+        let k = states[i];
         taken = taken + one_if(is_taken(k));
         waits = waits + one_if(is_pending(k));
         shelved = shelved + one_if(is_shelved(k));
@@ -170,8 +170,8 @@ fn counts_right(seats: &Seats, total: u32, pending: u32, available: usize) -> bo
 }
 
 // What is listed is a slot, is checked in, and was not met before.
-fn order_right(seats: &Seats, n: usize) -> bool
-    ensures { λ r. ⌜ r ≡ orderRight (drop most (now (seats .entry))) (now (seats .entry)) n ⌝ }
+fn order_right(states: &States, n: usize) -> bool
+    ensures { λ r. ⌜ r ≡ orderRight (drop slotCount (now (states .entry))) (now (states .entry)) n ⌝ }
 {
     if SLOTS < n {
         return false;
@@ -179,11 +179,11 @@ fn order_right(seats: &Seats, n: usize) -> bool
     let mut met: [u8; SLOTS] = [0; SLOTS];
     let mut i: usize = 0;
     while i < n {
-        let e = words::wide(seats[SLOTS + i]);
+        let e = words::as_index(states[SLOTS + i]);
         if SLOTS <= e {
             return false;
         }
-        if seats[e] != 1 {
+        if states[e] != 1 {
             return false;
         }
         if met[e] != 0 {
@@ -196,8 +196,8 @@ fn order_right(seats: &Seats, n: usize) -> bool
 }
 
 // With no return in the loop, so that several are looked at at once.
-fn order_blank_from(seats: &Seats, n: usize) -> bool
-    ensures { λ r. ⌜ r ≡ blankFrom most n (drop most (now (seats .entry))) ⌝ }
+fn order_blank_from(states: &States, n: usize) -> bool
+    ensures { λ r. ⌜ r ≡ blankFrom slotCount n (drop slotCount (now (states .entry))) ⌝ }
 {
     if SLOTS < n {
         return true;
@@ -205,7 +205,7 @@ fn order_blank_from(seats: &Seats, n: usize) -> bool
     let mut ok = true;
     let mut i = n;
     while i < SLOTS {
-        if seats[SLOTS + i] != 0 {
+        if states[SLOTS + i] != 0 {
             ok = false;
         }
         i += 1;
@@ -254,30 +254,30 @@ fn queue_blank_from(waiters: &Waiters, n: usize) -> bool
 // The structure test: whether a pool keeps every rule. That the serial fits is its type's to say.
 pub fn keeps_rules(
     head: Head,
-    cells: &Cells,
+    numbers: &Numbers,
     times: &Times,
-    seats: &Seats,
+    states: &States,
     waiters: &Waiters,
 ) -> bool
-    requires { ⌜ Whole (given head cells times seats waiters) ⌝ }
-    ensures { λ r. ⌜ Exactly r (before head cells times seats waiters) ⌝ }
+    requires { ⌜ Whole (given head numbers times states waiters) ⌝ }
+    ensures { λ r. ⌜ Exactly r (before head numbers times states waiters) ⌝ }
 {
     let o = head.options;
     let next = head.next_connection_id;
     let n = head.available_count;
     let w = head.waiting_count;
     let options = both(pool::in_range(o), next <= 4294967233);
-    let below = ids_below(cells, next);
-    let distinct = ids_distinct(cells);
-    let fit = slots_fit(cells, times, seats);
+    let below = ids_below(numbers, next);
+    let distinct = ids_distinct(numbers);
+    let fit = slots_fit(numbers, times, states);
     let counts = counts_right(
-        seats,
+        states,
         head.total_connection_count,
         head.pending_connection_count,
         n,
     );
-    let order = order_right(seats, n);
-    let past = order_blank_from(seats, n);
+    let order = order_right(states, n);
+    let past = order_blank_from(states, n);
     let queue = queue_rises(waiters, w, head.last_request);
     let rest = queue_blank_from(waiters, w);
     both(

@@ -5,7 +5,7 @@ use mathlib.Core.Option.{Option, none, some}
 use Prim.Native.Nat.{ℕ, _+_, _%_}
 use lib.ListN.{length, getD}
 use Rattle.definition.specs.Words.{if_then_else_, _<?_, _≤?_, _=?_}
-use Rattle.definition.specs.Pool.{most, isClosed, queueLength}
+use Rattle.definition.specs.Pool.{slotCount, isClosed, queueLength}
 use Rattle.definition.specs.Steps.{Out, kindNo, _to_holds_}
 use Rattle.definition.specs.Bytes.{serialOf}
 use Rattle.definition.specs.Refusals.{Test, _if_, first, takenAfterClose, enoughRoom, lastNextId, lastGeneration, wrongTime}
@@ -20,14 +20,14 @@ use Rattle.slots.specs.View.{SlotPool}
 use Rattle.slots.specs.Slots.{slotAt, withClock, withSerial, event}
 use Rattle.slots.specs.Done.{lay}
 use Rattle.slots.specs.declared.Verdict.{Verdict}
-use Rattle.slots.specs.declared.Verdict.the-variants.{Refuse, At}
+use Rattle.slots.specs.declared.Verdict.the-variants.{Refuse, Accept}
 use Rattle.slots.specs.declared.Outcome.{Outcome}
 use Rattle.slots.specs.declared.Outcome.the-variants.{Refused, Accepted}
 
 -- the slot of a connection's id, 64 where it has none; the place of a waiting request, past the last where it does not wait
 module _ (p : SlotPool) (n : ℕ) where
   abbrev pub slotOf : ℕ
-  slotOf = place n most (p .ids)
+  slotOf = place n slotCount (p .ids)
 
   abbrev pub waiterOf? : ℕ
   waiterOf? = placeOf n (p .waitings) (p .waiters)
@@ -59,24 +59,24 @@ target p Close = 0
 abbrev pub requestTests : SlotPool → ℕ → List Test
 requestTests p n = (OldRequest if n ≤? p .lastRequest) ∷ (QueueFull if queueLength ≤? p .waitings) ∷ []
 
-abbrev pub ofKind : SlotPool → Event → ℕ → List Test
-ofKind p (CheckOut n) now = requestTests p n
-ofKind p (WarmPool n) now = requestTests p n
-ofKind p (Abandon n) now = (NotWaiting if not (waiterOf? p n <? p .waitings && getD (p .waiters) (waiterOf? p n) 0 % 4 <? 2)) ∷ []
-ofKind p (CheckIn n errored executing letGo) now =
+abbrev pub kindTests : SlotPool → Event → ℕ → List Test
+kindTests p (CheckOut n) now = requestTests p n
+kindTests p (WarmPool n) now = requestTests p n
+kindTests p (Abandon n) now = (NotWaiting if not (waiterOf? p n <? p .waitings && getD (p .waiters) (waiterOf? p n) 0 % 4 <? 2)) ∷ []
+kindTests p (CheckIn n errored executing letGo) now =
     (WrongState if not (2 to 4 holds stateOf p n)) ∷ (WrongTime if wrongTime letGo (timeOf p n) now) ∷ []
-ofKind p (Clear timeout cause) now = []
-ofKind p MarkAsReady now = []
-ofKind p (Succeeded n) now = (WrongState if not (stateOf p n =? 5)) ∷ []
-ofKind p (SucceededForPool n opened) now =
+kindTests p (Clear timeout cause) now = []
+kindTests p MarkAsReady now = []
+kindTests p (Succeeded n) now = (WrongState if not (stateOf p n =? 5)) ∷ []
+kindTests p (SucceededForPool n opened) now =
     (WrongState if not (stateOf p n =? 6)) ∷ (WrongTime if wrongTime opened (timeOf p n) now) ∷ []
-ofKind p (Failed n) now = (WrongState if not (5 to 6 holds stateOf p n)) ∷ []
-ofKind p Maintenance now = []
-ofKind p FillPool now = []
-ofKind p (Pin n) now = (AlreadyPinned if 3 to 4 holds stateOf p n) ∷ (WrongState if not (stateOf p n =? 2)) ∷ []
-ofKind p (ReturnToPinner n) now = (WrongState if not (stateOf p n =? 3)) ∷ []
-ofKind p (TakeFromPinner n) now = (WrongState if not (3 to 4 holds stateOf p n)) ∷ []
-ofKind p Close now = []
+kindTests p (Failed n) now = (WrongState if not (5 to 6 holds stateOf p n)) ∷ []
+kindTests p Maintenance now = []
+kindTests p FillPool now = []
+kindTests p (Pin n) now = (AlreadyPinned if 3 to 4 holds stateOf p n) ∷ (WrongState if not (stateOf p n =? 2)) ∷ []
+kindTests p (ReturnToPinner n) now = (WrongState if not (stateOf p n =? 3)) ∷ []
+kindTests p (TakeFromPinner n) now = (WrongState if not (3 to 4 holds stateOf p n)) ∷ []
+kindTests p Close now = []
 
 abbrev pub numbersSpent : SlotPool → Event → Bool
 numbersSpent p e =
@@ -87,14 +87,14 @@ tests p e now =
     (ClockBack if now <? p .clock) ∷
     (AfterClose if isClosed (p .state) && not (takenAfterClose e)) ∷
     (NumbersSpent if numbersSpent p e) ∷
-    ofKind p e now
+    kindTests p e now
 
-abbrev pub orAt : ℕ → Option Refusal → Verdict
-orAt i none = At i
-orAt i (some r) = Refuse r
+abbrev pub orAccept : ℕ → Option Refusal → Verdict
+orAccept i none = Accept i
+orAccept i (some r) = Refuse r
 
 unfoldable pub verdict : SlotPool → Event → ℕ → Verdict
-verdict p e now = orAt (target p e) (first (tests p e now))
+verdict p e now = orAccept (target p e) (first (tests p e now))
 
 -- what a call leaves: the pool, the output, and the answer
 pub record World : Type 0 where
@@ -111,7 +111,7 @@ accepted p l o = world (withSerial (o .pool) (serialOf (p .serial + length (o .r
 
 abbrev pub judged : SlotPool → List ℕ → Event → ℕ → Verdict → World
 judged p l e now (Refuse r) = world p l (Refused r)
-judged p l e now (At i) = accepted p l (event e i (withClock p now))
+judged p l e now (Accept i) = accepted p l (event e i (withClock p now))
 
 unfoldable pub step : SlotPool → List ℕ → Event → ℕ → World
 step p l e now = judged p l e now (verdict p e now)

@@ -24,7 +24,7 @@ pub record Done {P : Type 0} (o : Out P) (s n : ℕ) (l : List ℕ) (q : P) (m :
   pub out : k ≡ lay s n (o .records) l
 
 -- the middle of a loop: what is done so far, and then the outcome o' from m records in k, is the outcome o from n records in l
-pub record Told {P : Type 0} (o : Out P) (s n : ℕ) (l : List ℕ) (o' : Out P) (m : ℕ) (k : List ℕ) : Type 0 where
+pub record Underway {P : Type 0} (o : Out P) (s n : ℕ) (l : List ℕ) (o' : Out P) (m : ℕ) (k : List ℕ) : Type 0 where
   pub pool : o' .pool ≡ o .pool
   pub count : m + length (o' .records) ≡ n + length (o .records)
   pub out : lay s m (o' .records) k ≡ lay s n (o .records) l

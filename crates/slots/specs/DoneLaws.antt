@@ -8,7 +8,7 @@ use Rattle.definition.specs.Records.{Record, fieldsOf}
 use Rattle.definition.specs.Steps.{Out, Act, emit, _>>_}
 use Rattle.definition.specs.Bytes.{serialOf, recordBytes}
 use Rattle.slots.specs.Laid.{laid}
-use Rattle.slots.specs.Done.{lay, Done, Told}
+use Rattle.slots.specs.Done.{lay, Done, Underway}
 
 pub lay-append : (s n : ℕ) (a b : List Record) (l : List ℕ) → lay s n (a ++ b) l ≡ lay s (n + length a) b (lay s n a l)
 unfolding lay
@@ -53,21 +53,21 @@ module _ {P : Type 0} where
 
   -- ── In a loop ──
 
-  pub told-start : (o : Out P) (s n : ℕ) (l : List ℕ) → Told o s n l o n l
-  told-start o s n l = record { pool = refl; count = refl; out = refl }
+  pub underway-start : (o : Out P) (s n : ℕ) (l : List ℕ) → Underway o s n l o n l
+  underway-start o s n l = record { pool = refl; count = refl; out = refl }
 
-  pub told-done : {o : Out P} {s n₀ : ℕ} {l₀ : List ℕ} (q : P) (n : ℕ) (l : List ℕ) → Told o s n₀ l₀ (record { pool = q; records = [] }) n l → Done o s n₀ l₀ q n l
+  pub underway-done : {o : Out P} {s n₀ : ℕ} {l₀ : List ℕ} (q : P) (n : ℕ) (l : List ℕ) → Underway o s n₀ l₀ (record { pool = q; records = [] }) n l → Done o s n₀ l₀ q n l
   unfolding lay
-  told-done q n l t = record { pool = t .pool; count = omega (arith, t .count); out = t .out }
+  underway-done q n l t = record { pool = t .pool; count = omega (arith, t .count); out = t .out }
 
-  pub told-then : {o : Out P} {s n₀ : ℕ} {l₀ : List ℕ} (o' : Out P) {n m : ℕ} {l l' : List ℕ} {r : P} → Told o s n₀ l₀ o' n l → Done o' s n l r m l' → Done o s n₀ l₀ r m l'
-  told-then o' t d = record { pool = d .pool ∙ t .pool; count = d .count ∙ t .count; out = d .out ∙ t .out }
+  pub underway-then : {o : Out P} {s n₀ : ℕ} {l₀ : List ℕ} (o' : Out P) {n m : ℕ} {l l' : List ℕ} {r : P} → Underway o s n₀ l₀ o' n l → Done o' s n l r m l' → Done o s n₀ l₀ r m l'
+  underway-then o' t d = record { pool = d .pool ∙ t .pool; count = d .count ∙ t .count; out = d .out ∙ t .out }
 
   -- a turn does the act a, and what is left to do is b
-  pub told-turn : {o : Out P} {s n₀ : ℕ} {l₀ : List ℕ} (a b : Act P) (p q : P) {n m : ℕ} {l l' : List ℕ}
-      → Told o s n₀ l₀ ((a >> b) p) n l → Done (a p) s n l q m l' → Told o s n₀ l₀ (b q) m l'
+  pub underway-step : {o : Out P} {s n₀ : ℕ} {l₀ : List ℕ} (a b : Act P) (p q : P) {n m : ℕ} {l l' : List ℕ}
+      → Underway o s n₀ l₀ ((a >> b) p) n l → Done (a p) s n l q m l' → Underway o s n₀ l₀ (b q) m l'
   unfolding _>>_
-  told-turn a b p q {n} {m} t d =
+  underway-step a b p q {n} {m} t d =
       let c : m ≡ n + length (a p .records) = d .count in
       record {
         pool = rw (d .pool) (t .pool);

@@ -12,4 +12,4 @@ pub mod Parts
 pub mod DoneLaws
 pub mod CodeLaws
 pub mod StepLaws
-pub mod Kept
+pub mod ActLaws

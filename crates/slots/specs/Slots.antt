@@ -6,7 +6,7 @@ use mathlib.Core.List.{List, [], _∷_, _++_, map}
 use Prim.Native.Nat.{ℕ, zero, suc, _+_, _-_, _*_, _/_, _%_, _≤_, _<_}
 use lib.ListN.{length, getD, set, take}
 use Rattle.definition.specs.Words.{if_then_else_, _<?_, _≤?_, _=?_}
-use Rattle.definition.specs.Pool.{most, Waiter, isReady, isClosed, staleIn, idleFor}
+use Rattle.definition.specs.Pool.{slotCount, Waiter, isReady, isClosed, staleIn, idleFor}
 use Rattle.definition.specs.Records.{Record, ConnectionCreated, ConnectionReady, ConnectionCheckedIn, ConnectionClosed, PoolReady, PoolCleared, PoolShut, Interrupt, Replied, Reply, Pooled, Establishing, Warmed, Cleared, Gone, told}
 use Rattle.definition.specs.Events.{bit}
 use Rattle.definition.specs.Steps.{Act, nothing, emit, emitAll, become, _>>_, serviced}
@@ -45,8 +45,8 @@ backgroundNo = 6
 abbrev pub vacant : Slot
 vacant = record { generation = 0; time = 0; state = 0 }
 
-abbrev pub turned : ℕ → ℕ → Slot → Slot
-turned k t s = record { generation = s .generation; time = t; state = k }
+abbrev pub withState : ℕ → ℕ → Slot → Slot
+withState k t s = record { generation = s .generation; time = t; state = k }
 
 -- the pool with other values in some places
 module _ (p : SlotPool) where
@@ -65,8 +65,8 @@ module _ (p : SlotPool) where
   abbrev pub withWaiters : List ℕ → ℕ → SlotPool
   withWaiters w n = record { options = p .options; state = p .state; generation = p .generation; nextId = p .nextId; clock = p .clock; lastRequest = p .lastRequest; serial = p .serial; total = p .total; pendings = p .pendings; availables = p .availables; waitings = n; ids = p .ids; slots = p .slots; available = p .available; waiters = w }
 
-  abbrev pub withMode : PoolState → ℕ → SlotPool
-  withMode s g = record { options = p .options; state = s; generation = g; nextId = p .nextId; clock = p .clock; lastRequest = p .lastRequest; serial = p .serial; total = p .total; pendings = p .pendings; availables = p .availables; waitings = p .waitings; ids = p .ids; slots = p .slots; available = p .available; waiters = p .waiters }
+  abbrev pub withStatus : PoolState → ℕ → SlotPool
+  withStatus s g = record { options = p .options; state = s; generation = g; nextId = p .nextId; clock = p .clock; lastRequest = p .lastRequest; serial = p .serial; total = p .total; pendings = p .pendings; availables = p .availables; waitings = p .waitings; ids = p .ids; slots = p .slots; available = p .available; waiters = p .waiters }
 
   abbrev pub withClock : ℕ → SlotPool
   withClock t = record { options = p .options; state = p .state; generation = p .generation; nextId = p .nextId; clock = t; lastRequest = p .lastRequest; serial = p .serial; total = p .total; pendings = p .pendings; availables = p .availables; waitings = p .waitings; ids = p .ids; slots = p .slots; available = p .available; waiters = p .waiters }
@@ -101,11 +101,11 @@ leavePending p = become (withCounts p (p .total) (p .pendings - 1)) p
 
 -- to the back of the available list, available since the time given
 unfoldable pub shelve : ℕ → ℕ → Act SlotPool
-shelve i t p = become (withAvailable (withTable p (p .ids) (set (p .slots) i (turned checkedInNo t (slotAt p i)))) (set (p .available) (p .availables) i) (p .availables + 1)) p
+shelve i t p = become (withAvailable (withTable p (p .ids) (set (p .slots) i (withState checkedInNo t (slotAt p i)))) (set (p .available) (p .availables) i) (p .availables + 1)) p
 
 -- slot i in another state, now: lent, pinned, returned
-unfoldable pub turnAt : ℕ → ℕ → Act SlotPool
-turnAt state i p = become (withTable p (p .ids) (set (p .slots) i (turned state (p .clock) (slotAt p i)))) p
+unfoldable pub setStateAt : ℕ → ℕ → Act SlotPool
+setStateAt state i p = become (withTable p (p .ids) (set (p .slots) i (withState state (p .clock) (slotAt p i)))) p
 
 -- the front, or the back, leaves the available list
 unfoldable pub popFront : Act SlotPool
@@ -117,7 +117,7 @@ popBack p = become (withAvailable p (set (p .available) (p .availables - 1) 0) (
 -- a new connection in the first vacant slot: the next id, the current generation
 unfoldable pub createPendingConnection : ℕ → Act SlotPool
 createPendingConnection state p =
-    let i = place 0 most (p .ids) in
+    let i = place 0 slotCount (p .ids) in
     (do
       emit (ConnectionCreated (p .nextId))
       become (withCounts (withNextId (withTable p (set (p .ids) i (p .nextId)) (set (p .slots) i (record { generation = p .generation; time = p .clock; state = state }))) (p .nextId + 1)) (p .total + 1) (p .pendings + 1))
@@ -138,8 +138,8 @@ waitersOf p = map waiterOf (take (p .waitings) (p .waiters))
 unfoldable pub tellAll : Reply → Act SlotPool
 tellAll r p = (emitAll (map (told r) (waitersOf p)) >> become (withWaiters p (zeroed (p .waitings) (p .waiters)) 0)) p
 
-unfoldable pub mode : PoolState → ℕ → Act SlotPool
-mode s generation p = become (withMode p s generation) p
+unfoldable pub enter : PoolState → ℕ → Act SlotPool
+enter s generation p = become (withStatus p s generation) p
 
 -- ── The steps ──────────────────────────────────────────────────────────────────────────────────────────────────────────
 
@@ -177,13 +177,13 @@ clearedReady timeout cause p =
     (if isReady (p .state) then emit (PoolCleared timeout cause (p .generation + 1)) >> tellAll (Cleared cause) else nothing) p
 
 unfoldable pub clear : (timeout : Bool) → (cause : ℕ) → Act SlotPool
-clear timeout cause p = (interrupted timeout >> clearedReady timeout cause >> mode (Paused cause) (p .generation + 1)) p
+clear timeout cause p = (interrupted timeout >> clearedReady timeout cause >> enter (Paused cause) (p .generation + 1)) p
 
 unfoldable pub markAsReady : Act SlotPool
-markAsReady p = (if isReady (p .state) then nothing else (emit PoolReady >> mode Ready (p .generation))) p
+markAsReady p = (if isReady (p .state) then nothing else (emit PoolReady >> enter Ready (p .generation))) p
 
 unfoldable pub succeededAt : ℕ → Act SlotPool
-succeededAt i p = (emit (ConnectionReady (idAt p i)) >> leavePending >> turnAt checkedOutNo i) p
+succeededAt i p = (emit (ConnectionReady (idAt p i)) >> leavePending >> setStateAt checkedOutNo i) p
 
 unfoldable pub succeededForPoolAt : ℕ → (opened : ℕ) → Act SlotPool
 succeededForPoolAt i opened p =
@@ -229,26 +229,26 @@ shut p =
       closeFront (p .availables)
       tellAll Gone
       emit PoolShut
-      mode Closed (p .generation)
+      enter Closed (p .generation)
     ) p
 
 -- what the event itself does to the slot, or the waiter, that it names
-unfoldable pub own : Event → (at : ℕ) → Act SlotPool
-own (CheckOut n) at = request n false
-own (WarmPool n) at = request n true
-own (Abandon n) at = abandonAt at
-own (CheckIn n errored executing letGo) at = checkInAt at errored executing letGo
-own (Clear timeout cause) at = clear timeout cause
-own MarkAsReady at = markAsReady
-own (Succeeded n) at = succeededAt at
-own (SucceededForPool n opened) at = succeededForPoolAt at opened
-own (Failed n) at = failedAt at
-own Maintenance at = maintenance
-own FillPool at = nothing
-own (Pin n) at = turnAt inUseNo at
-own (ReturnToPinner n) at = turnAt returnedNo at
-own (TakeFromPinner n) at = turnAt inUseNo at
-own Close at = shut
+unfoldable pub handle : Event → (at : ℕ) → Act SlotPool
+handle (CheckOut n) at = request n false
+handle (WarmPool n) at = request n true
+handle (Abandon n) at = abandonAt at
+handle (CheckIn n errored executing letGo) at = checkInAt at errored executing letGo
+handle (Clear timeout cause) at = clear timeout cause
+handle MarkAsReady at = markAsReady
+handle (Succeeded n) at = succeededAt at
+handle (SucceededForPool n opened) at = succeededForPoolAt at opened
+handle (Failed n) at = failedAt at
+handle Maintenance at = maintenance
+handle FillPool at = nothing
+handle (Pin n) at = setStateAt inUseNo at
+handle (ReturnToPinner n) at = setStateAt returnedNo at
+handle (TakeFromPinner n) at = setStateAt inUseNo at
+handle Close at = shut
 
 -- ── The service stage ──────────────────────────────────────────────────────────────────────────────────────────────────
 
@@ -263,7 +263,7 @@ unfoldable pub establish : Waiter → Act SlotPool
 establish w p = (createPendingConnection requestNo >> emit (told (Establishing (p .nextId)) w)) p
 
 unfoldable pub lend : Waiter → ℕ → Act SlotPool
-lend w i p = (emit (told (Pooled (idAt p i)) w) >> (if w .abandoned then shelve i (p .clock) else turnAt checkedOutNo i)) p
+lend w i p = (emit (told (Pooled (idAt p i)) w) >> (if w .abandoned then shelve i (p .clock) else setStateAt checkedOutNo i)) p
 
 -- of the first k available, from the back: closed if perished, until one is lent
 unfoldable pub takeFrom : ℕ → Waiter → Act SlotPool
@@ -292,4 +292,4 @@ unfoldable pub service : Act SlotPool
 service p = (if canService p then (if p .waitings =? 0 then nothing else serveFront) else nothing) p
 
 unfoldable pub event : Event → (at : ℕ) → Act SlotPool
-event e at = own e at >> (if serviced e then service else nothing)
+event e at = handle e at >> (if serviced e then service else nothing)

@@ -12,7 +12,7 @@ use Rattle.definition.specs.Events.{bit}
 use Rattle.definition.specs.declared.PoolState.the-variants.{New, Paused, Ready, Closed}
 use Rattle.definition.specs.declared.ClosedReason.the-variants.{Stale, Error, Dropped, PoolClosed}
 use Rattle.slots.specs.View.{SlotPool}
-use Rattle.slots.specs.Slots.{closeAt, shelve, leavePending, mode, idAt, staleAt, checkInAt, succeededForPoolAt, markAsReady, queue, request, withLastRequest, withWaiters}
+use Rattle.slots.specs.Slots.{closeAt, shelve, leavePending, enter, idAt, staleAt, checkInAt, succeededForPoolAt, markAsReady, queue, request, withLastRequest, withWaiters}
 
 module _ (p : SlotPool) (i : ℕ) (errored executing : Bool) (t : ℕ) where
   pub checkIn-closed : isClosed (p .state) ≡ true → checkInAt i errored executing t p ≡ closeAt PoolClosed i p
@@ -49,7 +49,7 @@ module _ (p : SlotPool) where
   unfolding markAsReady if_then_else_
   ready-already h = rw h
 
-  pub ready-now : isReady (p .state) ≡ false → markAsReady p ≡ (emit PoolReady >> mode Ready (p .generation)) p
+  pub ready-now : isReady (p .state) ≡ false → markAsReady p ≡ (emit PoolReady >> enter Ready (p .generation)) p
   unfolding markAsReady if_then_else_
   ready-now h = rw h
 

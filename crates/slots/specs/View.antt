@@ -7,7 +7,7 @@ use lib.ListN.{length, getD, set, take, drop}
 use denote.Ref.{RefT, now}
 use denote.Triple.Both.{Both}
 use Rattle.definition.specs.Words.{_≤?_, _=?_}
-use Rattle.definition.specs.Pool.{queueLength, most, Waiter}
+use Rattle.definition.specs.Pool.{queueLength, slotCount, Waiter}
 use Rattle.definition.specs.declared.Options.{Options}
 use Rattle.definition.specs.declared.PoolState.{PoolState}
 use Rattle.slots.specs.declared.Head.{Head}
@@ -44,10 +44,10 @@ rows (g ∷ gs) (t ∷ ts) (s ∷ ss) = record { generation = g; time = t; state
 
 -- cells: ids, then generations; times; seats: states, then the available slots; waiters: four times the id, and 1 if warm, 2 if abandoned
 abbrev pub poolOf : Head → List ℕ → List ℕ → List ℕ → List ℕ → SlotPool
-poolOf h cells times seats waiters = record {
+poolOf h numbers times states waiters = record {
   options = h .options;
-  state = h .mode .state;
-  generation = h .mode .generation;
+  state = h .status .state;
+  generation = h .status .generation;
   nextId = h .«next_connection_id»;
   clock = h .clock;
   lastRequest = h .«last_request»;
@@ -56,9 +56,9 @@ poolOf h cells times seats waiters = record {
   pendings = h .«pending_connection_count»;
   availables = h .«available_count»;
   waitings = h .«waiting_count»;
-  ids = take most cells;
-  slots = rows (drop most cells) times (take most seats);
-  available = drop most seats;
+  ids = take slotCount numbers;
+  slots = rows (drop slotCount numbers) times (take slotCount states);
+  available = drop slotCount states;
   waiters = waiters;
 }
 
@@ -71,17 +71,17 @@ Lent = Both (RefT (List ℕ)) (RefT (List ℕ))
 
 -- the pool whose lent parts are these: in a `requires`; as a function is called; as it returns
 abbrev pub given : Head → RefT (List ℕ) → RefT (List ℕ) → RefT (List ℕ) → RefT (List ℕ) → SlotPool
-given h cells times seats waiters = poolOf h (now cells) (now times) (now seats) (now waiters)
+given h numbers times states waiters = poolOf h (now numbers) (now times) (now states) (now waiters)
 
 abbrev pub before : Head → Lent → Lent → Lent → Lent → SlotPool
-before h cells times seats waiters = poolOf h (now (cells .entry)) (now (times .entry)) (now (seats .entry)) (now (waiters .entry))
+before h numbers times states waiters = poolOf h (now (numbers .entry)) (now (times .entry)) (now (states .entry)) (now (waiters .entry))
 
 abbrev pub after : Head → Lent → Lent → Lent → Lent → SlotPool
-after h cells times seats waiters = poolOf h (now (cells .exit)) (now (times .exit)) (now (seats .exit)) (now (waiters .exit))
+after h numbers times states waiters = poolOf h (now (numbers .exit)) (now (times .exit)) (now (states .exit)) (now (waiters .exit))
 
 -- the columns have their lengths (what lies behind a reference is a list whose length nothing tells)
 pub record Whole (p : SlotPool) : Type 0 where
-  pub ids : length (p .ids) ≡ most
-  pub slots : length (p .slots) ≡ most
-  pub available : length (p .available) ≡ most
+  pub ids : length (p .ids) ≡ slotCount
+  pub slots : length (p .slots) ≡ slotCount
+  pub available : length (p .available) ≡ slotCount
   pub waiters : length (p .waiters) ≡ queueLength

@@ -3,7 +3,7 @@ use definition::Options;
 use definition::PoolState;
 use definition::Refusal;
 
-pub struct Mode {
+pub struct Status {
     pub state: PoolState,
     pub generation: u32,
 }
@@ -15,13 +15,13 @@ pub const SLOTS: usize = 64;
 pub const QUEUE: usize = 256;
 
 // The slots' ids, then their generations.
-pub type Cells = [u32; 2 * SLOTS];
+pub type Numbers = [u32; 2 * SLOTS];
 
 // When each slot's connection became available, or was last named.
 pub type Times = [u64; SLOTS];
 
 // The slots' states, then the available slots, front to back.
-pub type Seats = [u8; 2 * SLOTS];
+pub type States = [u8; 2 * SLOTS];
 
 // Front to back: four times the request's id, and 1 if it warms the pool, 2 if it was abandoned.
 pub type Waiters = [u64; QUEUE];
@@ -29,7 +29,7 @@ pub type Waiters = [u64; QUEUE];
 // What a pool holds beside its columns.
 pub struct Head {
     pub options: Options,
-    pub mode: Mode,
+    pub status: Status,
     pub next_connection_id: u32,
     pub clock: u64,
     pub last_request: u32,
@@ -43,7 +43,7 @@ pub struct Head {
 // What the tests say of an event: a refusal, or the slot or the waiter that it names.
 pub enum Verdict {
     Refuse(Refusal),
-    At(usize),
+    Accept(usize),
 }
 
 // The answer to a call: a refusal, or how many records were written.

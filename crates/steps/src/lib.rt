@@ -8,58 +8,57 @@ ghost use Rattle.slots.specs.Done.{Room, Done};
 ghost use Rattle.slots.specs.Needs.{CanClose, CanShelve, CanLeave, CanQueue};
 ghost use Rattle.definition.specs.Words.{if_then_else_};
 ghost use Rattle.definition.specs.Events.{bit};
-ghost use Rattle.slots.specs.Slots.{request, abandonAt, checkInAt, markAsReady, succeededAt, succeededForPoolAt, failedAt};
-use acts::Core;
+ghost use Rattle.slots.specs.Slots.{request, abandonAt, checkInAt, succeededAt, succeededForPoolAt, failedAt};
+use acts::Progress;
 use definition::PoolState;
-use slots::Cells;
+use slots::Numbers;
 use slots::Head;
-use slots::Mode;
 use slots::SLOTS;
-use slots::Seats;
+use slots::States;
 use slots::Times;
 use slots::Waiters;
 
 // A request: to the queue's back if Ready, else answered at once with the cause.
 pub fn request(
     head: Head,
-    cells: &mut Cells,
+    numbers: &mut Numbers,
     times: &mut Times,
-    seats: &mut Seats,
+    states: &mut States,
     waiters: &mut Waiters,
     out: &mut [u8],
     n: u32,
     id: u32,
     warm: bool,
-) -> Core
-    requires { ⌜ Whole (given head cells times seats waiters) × CanQueue (given head cells times seats waiters) × Room 1 n (now out) ⌝ }
-    ensures { λ r. ⌜ Done (request id warm (before head cells times seats waiters)) (head .serial) n (now (out .entry)) (after (r .head) cells times seats waiters) (r .count) (now (out .exit)) ⌝ }
+) -> Progress
+    requires { ⌜ Whole (given head numbers times states waiters) × CanQueue (given head numbers times states waiters) × Room 1 n (now out) ⌝ }
+    ensures { λ r. ⌜ Done (request id warm (before head numbers times states waiters)) (head .serial) n (now (out .entry)) (after (r .head) numbers times states waiters) (r .count) (now (out .exit)) ⌝ }
 {
     let mut h = head;
     h.last_request = id;
-    let m = head.mode;
+    let m = head.status;
     let st = m.state;
     match st {
         PoolState::New => {
-            table::emit(out, n, h.serial, 19, 0, words::long(id), 0);
-            Core {
+            table::emit(out, n, h.serial, 19, 0, words::as_u64(id), 0);
+            Progress {
                 head: h,
                 count: n + 1,
             }
         }
         PoolState::Paused(cause) => {
-            table::emit(out, n, h.serial, 19, 0, words::long(id), cause);
-            Core {
+            table::emit(out, n, h.serial, 19, 0, words::as_u64(id), cause);
+            Progress {
                 head: h,
                 count: n + 1,
             }
         }
         PoolState::Ready => {
             let k = h.waiting_count;
-            waiters[k] = 4 * words::long(id) + mark(warm);
+            waiters[k] = 4 * words::as_u64(id) + mark(warm);
             h.waiting_count = k + 1;
-            Core { head: h, count: n }
+            Progress { head: h, count: n }
         }
-        PoolState::Closed => Core { head: h, count: n },
+        PoolState::Closed => Progress { head: h, count: n },
     }
 }
 
@@ -81,14 +80,14 @@ fn abandoned(w: u64) -> u64
 // The waiter at place k, not abandoned so far, is marked so.
 pub fn abandon(
     head: Head,
-    cells: &mut Cells,
+    numbers: &mut Numbers,
     times: &mut Times,
-    seats: &mut Seats,
+    states: &mut States,
     waiters: &mut Waiters,
     k: usize,
 )
-    requires { ⌜ Whole (given head cells times seats waiters) × (k < queueLength) × (getD (now waiters) k 0 % 4 < 2) ⌝ }
-    ensures { λ _. ⌜ after head cells times seats waiters ≡ abandonAt k (before head cells times seats waiters) .pool ⌝ }
+    requires { ⌜ Whole (given head numbers times states waiters) × (k < queueLength) × (getD (now waiters) k 0 % 4 < 2) ⌝ }
+    ensures { λ _. ⌜ after head numbers times states waiters ≡ abandonAt k (before head numbers times states waiters) .pool ⌝ }
 {
     waiters[k] = abandoned(waiters[k]);
 }
@@ -96,9 +95,9 @@ pub fn abandon(
 // A check-in: errored before stale before executing; else to the available list, available since it was let go.
 pub fn check_in(
     head: Head,
-    cells: &mut Cells,
+    numbers: &mut Numbers,
     times: &mut Times,
-    seats: &mut Seats,
+    states: &mut States,
     waiters: &mut Waiters,
     out: &mut [u8],
     n: u32,
@@ -106,60 +105,27 @@ pub fn check_in(
     errored: bool,
     executing: bool,
     let_go: u64,
-) -> Core
-    requires { ⌜ Whole (given head cells times seats waiters) × CanClose (given head cells times seats waiters) i × CanShelve (given head cells times seats waiters) i × Room 2 n (now out) ⌝ }
-    ensures { λ r. ⌜ Done (checkInAt i errored executing «let_go» (before head cells times seats waiters)) (head .serial) n (now (out .entry)) (after (r .head) cells times seats waiters) (r .count) (now (out .exit)) ⌝ }
+) -> Progress
+    requires { ⌜ Whole (given head numbers times states waiters) × CanClose (given head numbers times states waiters) i × CanShelve (given head numbers times states waiters) i × Room 2 n (now out) ⌝ }
+    ensures { λ r. ⌜ Done (checkInAt i errored executing «let_go» (before head numbers times states waiters)) (head .serial) n (now (out .entry)) (after (r .head) numbers times states waiters) (r .count) (now (out .exit)) ⌝ }
 {
-    let m = head.mode;
+    let m = head.status;
     let st = m.state;
-    if acts::is_closed(st) {
-        return acts::close_connection(head, cells, times, seats, waiters, out, n, i, 5);
+    if conditions::is_closed(st) {
+        return acts::close_connection(head, numbers, times, states, waiters, out, n, i, 5);
     }
-    table::emit(out, n, head.serial, 3, 0, words::long(cells[i]), 0);
+    table::emit(out, n, head.serial, 3, 0, words::as_u64(numbers[i]), 0);
     if errored {
-        return acts::close_connection(head, cells, times, seats, waiters, out, n + 1, i, 3);
+        return acts::close_connection(head, numbers, times, states, waiters, out, n + 1, i, 3);
     }
-    if cells[SLOTS + i] != m.generation {
-        return acts::close_connection(head, cells, times, seats, waiters, out, n + 1, i, 2);
+    if numbers[SLOTS + i] != m.generation {
+        return acts::close_connection(head, numbers, times, states, waiters, out, n + 1, i, 2);
     }
     if executing {
-        return acts::close_connection(head, cells, times, seats, waiters, out, n + 1, i, 4);
+        return acts::close_connection(head, numbers, times, states, waiters, out, n + 1, i, 4);
     }
-    let h = acts::shelve(head, cells, times, seats, waiters, i, let_go);
-    Core {
-        head: h,
-        count: n + 1,
-    }
-}
-
-pub fn mark_as_ready(
-    head: Head,
-    cells: &mut Cells,
-    times: &mut Times,
-    seats: &mut Seats,
-    waiters: &mut Waiters,
-    out: &mut [u8],
-    n: u32,
-) -> Core
-    requires { ⌜ Whole (given head cells times seats waiters) × Room 1 n (now out) ⌝ }
-    ensures { λ r. ⌜ Done (markAsReady (before head cells times seats waiters)) (head .serial) n (now (out .entry)) (after (r .head) cells times seats waiters) (r .count) (now (out .exit)) ⌝ }
-{
-    let m = head.mode;
-    let st = m.state;
-    if acts::is_ready(st) {
-        return Core {
-            head: head,
-            count: n,
-        };
-    }
-    table::emit(out, n, head.serial, 5, 0, 0, 0);
-    let mut h = head;
-    let ready = Mode {
-        state: PoolState::Ready,
-        generation: m.generation,
-    };
-    h.mode = ready;
-    Core {
+    let h = acts::shelve(head, numbers, times, states, waiters, i, let_go);
+    Progress {
         head: h,
         count: n + 1,
     }
@@ -168,22 +134,22 @@ pub fn mark_as_ready(
 // A pending connection for a request becomes lent.
 pub fn handle_connection_succeeded(
     head: Head,
-    cells: &mut Cells,
+    numbers: &mut Numbers,
     times: &mut Times,
-    seats: &mut Seats,
+    states: &mut States,
     waiters: &mut Waiters,
     out: &mut [u8],
     n: u32,
     i: usize,
-) -> Core
-    requires { ⌜ Whole (given head cells times seats waiters) × CanLeave (given head cells times seats waiters) i × Room 1 n (now out) ⌝ }
-    ensures { λ r. ⌜ Done (succeededAt i (before head cells times seats waiters)) (head .serial) n (now (out .entry)) (after (r .head) cells times seats waiters) (r .count) (now (out .exit)) ⌝ }
+) -> Progress
+    requires { ⌜ Whole (given head numbers times states waiters) × CanLeave (given head numbers times states waiters) i × Room 1 n (now out) ⌝ }
+    ensures { λ r. ⌜ Done (succeededAt i (before head numbers times states waiters)) (head .serial) n (now (out .entry)) (after (r .head) numbers times states waiters) (r .count) (now (out .exit)) ⌝ }
 {
-    table::emit(out, n, head.serial, 2, 0, words::long(cells[i]), 0);
+    table::emit(out, n, head.serial, 2, 0, words::as_u64(numbers[i]), 0);
     let mut h = head;
     h.pending_connection_count = h.pending_connection_count - 1;
-    acts::turn(h, cells, times, seats, waiters, i, 2);
-    Core {
+    acts::set_state(h, numbers, times, states, waiters, i, 2);
+    Progress {
         head: h,
         count: n + 1,
     }
@@ -192,28 +158,28 @@ pub fn handle_connection_succeeded(
 // One in background becomes available, even if stale; of a closed pool it is closed.
 pub fn handle_connection_succeeded_for_pool(
     head: Head,
-    cells: &mut Cells,
+    numbers: &mut Numbers,
     times: &mut Times,
-    seats: &mut Seats,
+    states: &mut States,
     waiters: &mut Waiters,
     out: &mut [u8],
     n: u32,
     i: usize,
     opened: u64,
-) -> Core
-    requires { ⌜ Whole (given head cells times seats waiters) × CanLeave (given head cells times seats waiters) i × Room 2 n (now out) ⌝ }
-    ensures { λ r. ⌜ Done (succeededForPoolAt i opened (before head cells times seats waiters)) (head .serial) n (now (out .entry)) (after (r .head) cells times seats waiters) (r .count) (now (out .exit)) ⌝ }
+) -> Progress
+    requires { ⌜ Whole (given head numbers times states waiters) × CanLeave (given head numbers times states waiters) i × Room 2 n (now out) ⌝ }
+    ensures { λ r. ⌜ Done (succeededForPoolAt i opened (before head numbers times states waiters)) (head .serial) n (now (out .entry)) (after (r .head) numbers times states waiters) (r .count) (now (out .exit)) ⌝ }
 {
-    table::emit(out, n, head.serial, 2, 0, words::long(cells[i]), 0);
+    table::emit(out, n, head.serial, 2, 0, words::as_u64(numbers[i]), 0);
     let mut h = head;
     h.pending_connection_count = h.pending_connection_count - 1;
-    let m = h.mode;
+    let m = h.status;
     let st = m.state;
-    if acts::is_closed(st) {
-        return acts::close_connection(h, cells, times, seats, waiters, out, n + 1, i, 5);
+    if conditions::is_closed(st) {
+        return acts::close_connection(h, numbers, times, states, waiters, out, n + 1, i, 5);
     }
-    let h2 = acts::shelve(h, cells, times, seats, waiters, i, opened);
-    Core {
+    let h2 = acts::shelve(h, numbers, times, states, waiters, i, opened);
+    Progress {
         head: h2,
         count: n + 1,
     }
@@ -221,18 +187,18 @@ pub fn handle_connection_succeeded_for_pool(
 
 pub fn handle_connection_failed(
     head: Head,
-    cells: &mut Cells,
+    numbers: &mut Numbers,
     times: &mut Times,
-    seats: &mut Seats,
+    states: &mut States,
     waiters: &mut Waiters,
     out: &mut [u8],
     n: u32,
     i: usize,
-) -> Core
-    requires { ⌜ Whole (given head cells times seats waiters) × CanLeave (given head cells times seats waiters) i × Room 1 n (now out) ⌝ }
-    ensures { λ r. ⌜ Done (failedAt i (before head cells times seats waiters)) (head .serial) n (now (out .entry)) (after (r .head) cells times seats waiters) (r .count) (now (out .exit)) ⌝ }
+) -> Progress
+    requires { ⌜ Whole (given head numbers times states waiters) × CanLeave (given head numbers times states waiters) i × Room 1 n (now out) ⌝ }
+    ensures { λ r. ⌜ Done (failedAt i (before head numbers times states waiters)) (head .serial) n (now (out .entry)) (after (r .head) numbers times states waiters) (r .count) (now (out .exit)) ⌝ }
 {
     let mut h = head;
     h.pending_connection_count = h.pending_connection_count - 1;
-    acts::close_connection(h, cells, times, seats, waiters, out, n, i, 3)
+    acts::close_connection(h, numbers, times, states, waiters, out, n, i, 3)
 }

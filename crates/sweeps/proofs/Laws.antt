@@ -9,7 +9,7 @@ use lib.ListN.{length, getD, set, take, drop, length-take, drop-of-length-le}
 use lib.Seq.{getD-take, drop-cons, length-take-le}
 use borrow.Author.Tests.{lt-ltb, le-ltb}
 use Rattle.definition.specs.Words.{if_then_else_, _<?_}
-use Rattle.definition.specs.Pool.{most, isReady}
+use Rattle.definition.specs.Pool.{slotCount, isReady}
 use Rattle.definition.specs.Records.{Record, Reply, fieldsOf, told}
 use Rattle.definition.specs.Bytes.{serialOf, recordBytes}
 use Rattle.definition.specs.Steps.{Out, Act, _>>_}
@@ -18,18 +18,18 @@ use Rattle.definition.specs.declared.ClosedReason.{ClosedReason}
 use Rattle.definition.specs.declared.ClosedReason.the-variants.{PoolClosed}
 use Rattle.slots.specs.Laid.{laid}
 use Rattle.slots.specs.View.{SlotPool, Whole, waiterOf}
-use Rattle.slots.specs.Done.{lay, Room, Done, Told}
-use Rattle.slots.specs.DoneLaws.{done-quiet, done-serial, told-turn, told-done, told-start}
+use Rattle.slots.specs.Done.{lay, Room, Done, Underway}
+use Rattle.slots.specs.DoneLaws.{done-quiet, done-serial, underway-step, underway-done, underway-start}
 use Rattle.slots.specs.Codes.{reasonOf}
 use Rattle.slots.specs.Needs.{taken, CanCreate, CanClose, CanPrune, CanFill}
 use Rattle.slots.specs.Slots.{closeAt, closePerishedAt, popFront, createPendingConnection, backgroundNo, prune, closeFront, fillUp, ensureMinConnections, zeroed, tellAll, withWaiters}
-use Rattle.slots.specs.Kept.{taken-set, vacant-place, zeroed-at, zeroed-more, perishedNoAt, is-healthy, is-perished, perished-reason, popped-whole, popped-prune, closed-whole, closed-prune, created-whole}
+use Rattle.slots.specs.ActLaws.{taken-set, vacant-place, zeroed-at, zeroed-more, perishedNoAt, is-healthy, is-perished, perished-reason, popped-whole, popped-prune, closed-whole, closed-prune, created-whole}
 
 -- ── From the available front ──
 
 -- a sweep from p by `act`, which goes k₀ times: as the turn of the pool q starts, with k left
 pub record Sweeping (act : ℕ → Act SlotPool) (s k₀ n₀ : ℕ) (p : SlotPool) (out₀ : List ℕ) (k n : ℕ) (q : SlotPool) (out : List ℕ) : Type 0 where
-  pub told : Told (act k₀ p) s n₀ out₀ (act k q) n out
+  pub told : Underway (act k₀ p) s n₀ out₀ (act k q) n out
   pub safe : CanPrune q
   pub whole : Whole q
   pub count : k ≡ q .availables
@@ -39,7 +39,7 @@ pub record Sweeping (act : ℕ → Act SlotPool) (s k₀ n₀ : ℕ) (p : SlotPo
 
 pub sweep-start : (act : ℕ → Act SlotPool) (p : SlotPool) (n : ℕ) (out : List ℕ) → Whole p → CanPrune p → Room (p .availables) n out
     → Sweeping act (p .serial) (p .availables) n p out (p .availables) n p out
-sweep-start act p n out w s r = record { told = told-start _ _ n out; safe = s; whole = w; count = refl; room = r; serial = refl; same = refl }
+sweep-start act p n out w s r = record { told = underway-start _ _ n out; safe = s; whole = w; count = refl; room = r; serial = refl; same = refl }
 
 closed-records : (reason : ClosedReason) (i : ℕ) (q : SlotPool) → length (closeAt reason i q .records) ≡ 1
 unfolding closeAt _>>_
@@ -92,11 +92,11 @@ module _ (act : ℕ → Act SlotPool) (reason : ClosedReason) (i : ℕ) (p : Slo
       let qs : q .serial ≡ s = ap (λ (x : SlotPool). x .serial) eq ∙ popped-serial ∙ v .serial in
       let er : r ≡ closeAt reason i (popFront p .pool) .pool = d .pool ∙ ap (λ (x : SlotPool). closeAt reason i x .pool) eq in
       let em : m ≡ n + 1 = d .count ∙ ap (λ (x : ℕ). n + x) (closed-records reason i q) in
-      let t = told-turn popFront (closeAt reason i >> act (k - 1)) p q (rw e at (v .told)) (done-quiet (popFront p) popped-quiet eq) in
+      let t = underway-step popFront (closeAt reason i >> act (k - 1)) p q (rw e at (v .told)) (done-quiet (popFront p) popped-quiet eq) in
       let z' : 0 < p .availables = omega (arith, v .count) in
       let w = closed-whole (popFront p .pool) reason i (popped-whole p (v .whole) (v .safe) z') in
       record {
-        told = told-turn (closeAt reason i) (act (k - 1)) q r t (done-serial qs d);
+        told = underway-step (closeAt reason i) (act (k - 1)) q r t (done-serial qs d);
         safe = subst (λ (x : SlotPool). CanPrune x) (sym er) (closed-front-prune (v .safe) z');
         whole = subst (λ (x : SlotPool). Whole x) (sym er) w;
         count = ap (λ (x : ℕ). x - 1) (v .count) ∙ sym (ap (λ (x : SlotPool). x .availables) er ∙ closed-front-count);
@@ -153,9 +153,9 @@ fill-goes (suc k) p z h g = let l : suc k - 1 ≡ k = omega arith in rw (lt-ltb 
 -- as a turn starts with the pool q: at most `left` are still made
 pub record Filling (s k₀ n₀ : ℕ) (p : SlotPool) (out₀ : List ℕ) (o : Options) (n : ℕ) (q : SlotPool) (out : List ℕ) : Type 0 where
   pub left : ℕ
-  pub told : Told (fillUp k₀ p) s n₀ out₀ (fillUp left q) n out
+  pub told : Underway (fillUp k₀ p) s n₀ out₀ (fillUp left q) n out
   pub enough : o .minimum ≤ left + q .total
-  pub minimum : o .minimum ≤ most
+  pub minimum : o .minimum ≤ slotCount
   pub whole : Whole q
   pub held : taken (q .ids) ≤ q .total
   pub ids : q .nextId + left < 4294967295
@@ -165,11 +165,11 @@ pub record Filling (s k₀ n₀ : ℕ) (p : SlotPool) (out₀ : List ℕ) (o : O
   pub serial : q .serial ≡ s
   pub same : length out ≡ length out₀
 
-pub fill-start : (p : SlotPool) (n : ℕ) (out : List ℕ) → Whole p → CanFill p → Room most n out
+pub fill-start : (p : SlotPool) (n : ℕ) (out : List ℕ) → Whole p → CanFill p → Room slotCount n out
     → Filling (p .serial) (p .options .minimum) n p out (p .options) n p out
 fill-start p n out w f r = record {
   left = p .options .minimum;
-  told = told-start _ _ n out;
+  told = underway-start _ _ n out;
   enough = omega arith;
   minimum = f .minimum;
   whole = w;
@@ -207,7 +207,7 @@ module _ {s k₀ n₀ : ℕ} {p₀ : SlotPool} {out₀ : List ℕ} {o : Options}
   pub fill-room : q .total < o .minimum → CanCreate q × Room 1 n out
   fill-room h = (
     record {
-      spot = vacant-place most (q .ids) (v .whole .ids) (omega (arith, v .held, v .minimum));
+      spot = vacant-place slotCount (q .ids) (v .whole .ids) (omega (arith, v .held, v .minimum));
       ids = omega (arith, v .ids);
       total = omega (arith, v .minimum);
       pending = omega (arith, v .pending, v .minimum);
@@ -227,7 +227,7 @@ module _ {s k₀ n₀ : ℕ} {p₀ : SlotPool} {out₀ : List ℕ} {o : Options}
       let g' : q .pendings < q .options .connecting = rw (v .options) g in
       record {
         left = v .left - 1;
-        told = told-turn (createPendingConnection backgroundNo) (fillUp (v .left - 1)) q r (rw (fill-goes (v .left) q z h' g') at (v .told)) (done-serial (v .serial) d);
+        told = underway-step (createPendingConnection backgroundNo) (fillUp (v .left - 1)) q r (rw (fill-goes (v .left) q z h' g') at (v .told)) (done-serial (v .serial) d);
         enough = omega (arith, v .enough, c .total);
         minimum = v .minimum;
         whole = w;
@@ -256,9 +256,9 @@ toldFrom r p k = record { pool = withWaiters p (zeroed (p .waitings) (p .waiters
 
 -- as waiter k is to be told: the cells before it are 0
 pub record Telling (r : Reply) (s n₀ : ℕ) (p : SlotPool) (out₀ : List ℕ) (k n : ℕ) (ws out : List ℕ) : Type 0 where
-  pub told : Told (tellAll r p) s n₀ out₀ (toldFrom r p k) n out
-  pub most : k ≤ p .waitings
-  pub cells : ws ≡ zeroed k (p .waiters)
+  pub told : Underway (tellAll r p) s n₀ out₀ (toldFrom r p k) n out
+  pub some : k ≤ p .waitings
+  pub cleared : ws ≡ zeroed k (p .waiters)
   pub room : Room (p .waitings - k) n out
   pub same : length out ≡ length out₀
 
@@ -269,16 +269,16 @@ told-from r p = rw append-nil
 pub tell-start : (r : Reply) (s n : ℕ) (p : SlotPool) (out : List ℕ) → Room (p .waitings) n out → Telling r s n p out 0 n (p .waiters) out
 unfolding zeroed
 tell-start r s n p out h = record {
-  told = rw (← told-from r p) (told-start (tellAll r p) s n out);
-  most = omega arith;
-  cells = refl;
+  told = rw (← told-from r p) (underway-start (tellAll r p) s n out);
+  some = omega arith;
+  cleared = refl;
   room = (omega (arith, h .0), omega (arith, h .1));
   same = refl;
 }
 
 told-step : {o : Out SlotPool} {s n₀ : ℕ} {l₀ : List ℕ} (p : SlotPool) (r : Record) (rs : List Record) (n : ℕ) (l : List ℕ) {l' : List ℕ}
-    → Told o s n₀ l₀ (record { pool = p; records = r ∷ rs }) n l → l' ≡ laid l (16 * n) (recordBytes (serialOf (s + n)) (fieldsOf r))
-    → Told o s n₀ l₀ (record { pool = p; records = rs }) (n + 1) l'
+    → Underway o s n₀ l₀ (record { pool = p; records = r ∷ rs }) n l → l' ≡ laid l (16 * n) (recordBytes (serialOf (s + n)) (fieldsOf r))
+    → Underway o s n₀ l₀ (record { pool = p; records = rs }) (n + 1) l'
 unfolding lay
 told-step p r rs n l t e = record { pool = t .pool; count = omega (arith, t .count); out = rw e (t .out) }
 
@@ -286,7 +286,7 @@ module _ (r : Reply) {s n₀ : ℕ} (p : SlotPool) {out₀ : List ℕ} (k n : �
   next : k < p .waitings → p .waitings ≤ length (p .waiters) → drop k (take (p .waitings) (p .waiters)) ≡ getD ws k 0 ∷ drop (suc k) (take (p .waitings) (p .waiters))
   next h f =
       let long : length (take (p .waitings) (p .waiters)) ≡ p .waitings = length-take-le (p .waitings) (p .waiters) f in
-      let e : getD ws k 0 ≡ getD (take (p .waitings) (p .waiters)) k 0 = ap (λ (l : List ℕ). getD l k 0) (v .cells) ∙ zeroed-at k (p .waiters) ∙ sym (getD-take (p .waitings) (p .waiters) k 0 h) in
+      let e : getD ws k 0 ≡ getD (take (p .waitings) (p .waiters)) k 0 = ap (λ (l : List ℕ). getD l k 0) (v .cleared) ∙ zeroed-at k (p .waiters) ∙ sym (getD-take (p .waitings) (p .waiters) k 0 h) in
       rw e (drop-cons (take (p .waitings) (p .waiters)) k 0 (omega (arith, long)))
 
   pub tell-turn : (out' : List ℕ) → k < p .waitings → p .waitings ≤ length (p .waiters)
@@ -296,15 +296,15 @@ module _ (r : Reply) {s n₀ : ℕ} (p : SlotPool) {out₀ : List ℕ} (k n : �
       let one : k + 1 ≡ suc k = omega arith in
       record {
         told = rw one (told-step _ _ _ n out (rw (next h f) at (v .told)) e);
-        most = omega arith;
-        cells = rw one (ap (λ (l : List ℕ). set l k 0) (v .cells) ∙ zeroed-more k (p .waiters));
+        some = omega arith;
+        cleared = rw one (ap (λ (l : List ℕ). set l k 0) (v .cleared) ∙ zeroed-more k (p .waiters));
         room = (omega (arith, v .room .0), omega (arith, v .room .1));
         same = el ∙ v .same;
       }
 
   pub tell-end : p .waitings ≤ k → Done (tellAll r p) s n₀ out₀ (withWaiters p ws 0) n out
   tell-end h =
-      let z : k ≡ p .waitings = omega (arith, v .most) in
+      let z : k ≡ p .waitings = omega (arith, v .some) in
       let short : length (take (p .waitings) (p .waiters)) ≤ k = omega (arith, length-take (p .waitings) (p .waiters)) in
       let e : drop k (take (p .waitings) (p .waiters)) ≡ [] = drop-of-length-le (take (p .waitings) (p .waiters)) short in
-      rw (v .cells, z) (told-done _ n out (rw e at (v .told)))
+      rw (v .cleared, z) (underway-done _ n out (rw e at (v .told)))

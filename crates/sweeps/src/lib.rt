@@ -1,34 +1,34 @@
 // What goes over a list, one by one: the waiters that are told, the available ones that are closed, those that are made.
 ghost use mathlib.Core.Path.{_≡_};
 ghost use Prim.Native.Nat.{_+_, _≤_, _<_};
-ghost use Rattle.definition.specs.Pool.{most};
+ghost use Rattle.definition.specs.Pool.{slotCount};
 ghost use Rattle.slots.specs.View.{given, before, after, Whole};
 ghost use Rattle.slots.specs.Done.{Room, Done};
 ghost use Rattle.slots.specs.Codes.{replyOf, IsReply};
 ghost use Rattle.slots.specs.Needs.{CanPrune, CanFill, CanTell};
 ghost use Rattle.slots.specs.Slots.{removePerished, ensureMinConnections, tellAll, closeFront};
-use acts::Core;
-use slots::Cells;
+use acts::Progress;
+use slots::Numbers;
 use slots::Head;
 use slots::SLOTS;
-use slots::Seats;
+use slots::States;
 use slots::Times;
 use slots::Waiters;
 
 // Every waiter, front to back: 19 with its cause, or 20.
 pub fn tell_all(
     head: Head,
-    cells: &mut Cells,
+    numbers: &mut Numbers,
     times: &mut Times,
-    seats: &mut Seats,
+    states: &mut States,
     waiters: &mut Waiters,
     out: &mut [u8],
     n: u32,
     kind: u8,
     other: u32,
-) -> Core
-    requires { ⌜ Whole (given head cells times seats waiters) × CanTell (given head cells times seats waiters) × IsReply kind other × Room (head .«waiting_count») n (now out) ⌝ }
-    ensures { λ r. ⌜ Done (tellAll (replyOf kind other) (before head cells times seats waiters)) (head .serial) n (now (out .entry)) (after (r .head) cells times seats waiters) (r .count) (now (out .exit)) ⌝ }
+) -> Progress
+    requires { ⌜ Whole (given head numbers times states waiters) × CanTell (given head numbers times states waiters) × IsReply kind other × Room (head .«waiting_count») n (now out) ⌝ }
+    ensures { λ r. ⌜ Done (tellAll (replyOf kind other) (before head numbers times states waiters)) (head .serial) n (now (out .entry)) (after (r .head) numbers times states waiters) (r .count) (now (out .exit)) ⌝ }
 {
     let w = head.waiting_count;
     let serial = head.serial;
@@ -42,7 +42,7 @@ pub fn tell_all(
     }
     let mut h = head;
     h.waiting_count = 0;
-    Core {
+    Progress {
         head: h,
         count: count,
     }
@@ -51,37 +51,37 @@ pub fn tell_all(
 // Maintenance, first: from the available front, up to the first healthy one.
 pub fn remove_perished_connections(
     head: Head,
-    cells: &mut Cells,
+    numbers: &mut Numbers,
     times: &mut Times,
-    seats: &mut Seats,
+    states: &mut States,
     waiters: &mut Waiters,
     out: &mut [u8],
     n: u32,
-) -> Core
-    requires { ⌜ Whole (given head cells times seats waiters) × CanPrune (given head cells times seats waiters) × Room (head .«available_count») n (now out) ⌝ }
-    ensures { λ r. ⌜ Done (removePerished (before head cells times seats waiters)) (head .serial) n (now (out .entry)) (after (r .head) cells times seats waiters) (r .count) (now (out .exit)) ⌝ }
+) -> Progress
+    requires { ⌜ Whole (given head numbers times states waiters) × CanPrune (given head numbers times states waiters) × Room (head .«available_count») n (now out) ⌝ }
+    ensures { λ r. ⌜ Done (removePerished (before head numbers times states waiters)) (head .serial) n (now (out .entry)) (after (r .head) numbers times states waiters) (r .count) (now (out .exit)) ⌝ }
 {
     let mut h = head;
     let mut count = n;
     let mut k = head.available_count;
     while 0 < k {
-        let i = words::wide(seats[SLOTS]);
-        let m = h.mode;
+        let i = words::as_index(states[SLOTS]);
+        let m = h.status;
         let o = h.options;
-        let r = acts::perished(m.generation, o.idle, h.clock, cells[SLOTS + i], times[i]);
+        let r = conditions::perished(m.generation, o.idle, h.clock, numbers[SLOTS + i], times[i]);
         if r == 0 {
-            return Core {
+            return Progress {
                 head: h,
                 count: count,
             };
         }
-        h = acts::pop_front(h, cells, times, seats, waiters);
-        let c = acts::close_connection(h, cells, times, seats, waiters, out, count, i, r);
+        h = acts::pop_front(h, numbers, times, states, waiters);
+        let c = acts::close_connection(h, numbers, times, states, waiters, out, count, i, r);
         h = c.head;
         count = c.count;
         k = k - 1;
     }
-    Core {
+    Progress {
         head: h,
         count: count,
     }
@@ -90,22 +90,22 @@ pub fn remove_perished_connections(
 // Maintenance, then: background connections while total is below the minimum and pending below max connecting.
 pub fn ensure_min_connections(
     head: Head,
-    cells: &mut Cells,
+    numbers: &mut Numbers,
     times: &mut Times,
-    seats: &mut Seats,
+    states: &mut States,
     waiters: &mut Waiters,
     out: &mut [u8],
     n: u32,
-) -> Core
-    requires { ⌜ Whole (given head cells times seats waiters) × CanFill (given head cells times seats waiters) × Room most n (now out) ⌝ }
-    ensures { λ r. ⌜ Done (ensureMinConnections (before head cells times seats waiters)) (head .serial) n (now (out .entry)) (after (r .head) cells times seats waiters) (r .count) (now (out .exit)) ⌝ }
+) -> Progress
+    requires { ⌜ Whole (given head numbers times states waiters) × CanFill (given head numbers times states waiters) × Room slotCount n (now out) ⌝ }
+    ensures { λ r. ⌜ Done (ensureMinConnections (before head numbers times states waiters)) (head .serial) n (now (out .entry)) (after (r .head) numbers times states waiters) (r .count) (now (out .exit)) ⌝ }
 {
     let mut h = head;
     let mut count = n;
-    let m = head.mode;
+    let m = head.status;
     let st = m.state;
-    if !acts::is_ready(st) {
-        return Core {
+    if !conditions::is_ready(st) {
+        return Progress {
             head: h,
             count: count,
         };
@@ -113,16 +113,16 @@ pub fn ensure_min_connections(
     let o = head.options;
     while h.total_connection_count < o.minimum {
         if o.connecting <= h.pending_connection_count {
-            return Core {
+            return Progress {
                 head: h,
                 count: count,
             };
         }
-        let c = acts::create_pending_connection(h, cells, times, seats, waiters, out, count, 6);
+        let c = acts::create_pending_connection(h, numbers, times, states, waiters, out, count, 6);
         h = c.head;
         count = c.count;
     }
-    Core {
+    Progress {
         head: h,
         count: count,
     }
@@ -131,28 +131,28 @@ pub fn ensure_min_connections(
 // Every available connection, front to back, is closed with its pool.
 pub fn close_available(
     head: Head,
-    cells: &mut Cells,
+    numbers: &mut Numbers,
     times: &mut Times,
-    seats: &mut Seats,
+    states: &mut States,
     waiters: &mut Waiters,
     out: &mut [u8],
     n: u32,
-) -> Core
-    requires { ⌜ Whole (given head cells times seats waiters) × CanPrune (given head cells times seats waiters) × Room (head .«available_count») n (now out) ⌝ }
-    ensures { λ r. ⌜ Done (closeFront (head .«available_count») (before head cells times seats waiters)) (head .serial) n (now (out .entry)) (after (r .head) cells times seats waiters) (r .count) (now (out .exit)) ⌝ }
+) -> Progress
+    requires { ⌜ Whole (given head numbers times states waiters) × CanPrune (given head numbers times states waiters) × Room (head .«available_count») n (now out) ⌝ }
+    ensures { λ r. ⌜ Done (closeFront (head .«available_count») (before head numbers times states waiters)) (head .serial) n (now (out .entry)) (after (r .head) numbers times states waiters) (r .count) (now (out .exit)) ⌝ }
 {
     let mut h = head;
     let mut count = n;
     let mut k = head.available_count;
     while 0 < k {
-        let i = words::wide(seats[SLOTS]);
-        h = acts::pop_front(h, cells, times, seats, waiters);
-        let c = acts::close_connection(h, cells, times, seats, waiters, out, count, i, 5);
+        let i = words::as_index(states[SLOTS]);
+        h = acts::pop_front(h, numbers, times, states, waiters);
+        let c = acts::close_connection(h, numbers, times, states, waiters, out, count, i, 5);
         h = c.head;
         count = c.count;
         k = k - 1;
     }
-    Core {
+    Progress {
         head: h,
         count: count,
     }

@@ -3,23 +3,23 @@ ghost use mathlib.Core.Path.{_≡_};
 ghost use mathlib.Core.List.{_++_};
 ghost use Prim.Native.Nat.{_+_, _*_, _≤_, _<_};
 ghost use lib.ListN.{length, take, drop};
-ghost use Rattle.definition.specs.Pool.{most, queueLength};
+ghost use Rattle.definition.specs.Pool.{slotCount, queueLength};
 ghost use Rattle.definition.specs.Records.{fields};
 ghost use Rattle.definition.specs.Bytes.{serialOf, recordBytes};
 ghost use Rattle.slots.specs.Order.{place, placeOf, shifted};
 ghost use Rattle.slots.specs.Laid.{laid};
-use slots::Cells;
+use slots::Numbers;
 use slots::SLOTS;
-use slots::Seats;
+use slots::States;
 use slots::Waiters;
 
 // The slot whose id is the number, or the count of slots.
-pub fn find(cells: &Cells, id: u32) -> usize
-    ensures { λ r. ⌜ r ≡ place id most (now (cells .entry)) ⌝ }
+pub fn find(numbers: &Numbers, id: u32) -> usize
+    ensures { λ r. ⌜ r ≡ place id slotCount (now (numbers .entry)) ⌝ }
 {
     let mut i: usize = 0;
     while i < SLOTS {
-        if cells[i] == id {
+        if numbers[i] == id {
             return i;
         }
         i += 1;
@@ -47,16 +47,16 @@ pub fn find_waiter(waiters: &Waiters, n: usize, id: u32) -> usize
 const LAST: usize = SLOTS - 1;
 
 // Of the order list: the front leaves, the others of the n move up, and a 0 stands last of the n.
-pub fn shift_order(seats: &mut Seats, n: usize)
-    requires { ⌜ (0 < n) × (n ≤ most) × (length (now seats) ≡ 2 * most) ⌝ }
-    ensures { λ _. ⌜ (take most (now (seats .exit)) ≡ take most (now (seats .entry))) × (drop most (now (seats .exit)) ≡ shifted n (drop most (now (seats .entry)))) ⌝ }
+pub fn shift_order(states: &mut States, n: usize)
+    requires { ⌜ (0 < n) × (n ≤ slotCount) × (length (now states) ≡ 2 * slotCount) ⌝ }
+    ensures { λ _. ⌜ (take slotCount (now (states .exit)) ≡ take slotCount (now (states .entry))) × (drop slotCount (now (states .exit)) ≡ shifted n (drop slotCount (now (states .entry)))) ⌝ }
 {
     let mut i: usize = 1;
     while i < n {
-        seats[LAST + i] = seats[SLOTS + i];
+        states[LAST + i] = states[SLOTS + i];
         i += 1;
     }
-    seats[LAST + n] = 0;
+    states[LAST + n] = 0;
 }
 
 // The front waiter leaves, the others of the n move up, and a 0 stands last of the n.

@@ -16,7 +16,7 @@ use definition::Refusal;
 
 // ── Numbers ──
 
-fn wide(x: u8) -> u32
+fn as_u32(x: u8) -> u32
     ensures { λ r. ⌜ (r ≡ x) × (r < 256) ⌝ }
 {
     x as u32
@@ -27,7 +27,7 @@ pub fn u32_at(b: &[u8], i: usize) -> u32
     requires { ⌜ i + 4 ≤ length (now b) ⌝ }
     ensures { λ r. ⌜ r ≡ at4 (now (b .entry)) i ⌝ }
 {
-    wide(b[i]) * 16777216 + wide(b[i + 1]) * 65536 + wide(b[i + 2]) * 256 + wide(b[i + 3])
+    as_u32(b[i]) * 16777216 + as_u32(b[i + 1]) * 65536 + as_u32(b[i + 2]) * 256 + as_u32(b[i + 3])
 }
 
 pub fn u64_at(b: &[u8], i: usize) -> u64

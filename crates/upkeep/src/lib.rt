@@ -1,38 +1,71 @@
-// The steps that go over the whole pool: maintenance, clear and close.
+// The steps that go over the whole pool: maintenance, ready, clear and close.
 ghost use mathlib.Core.Path.{_≡_};
 ghost use mathlib.Core.Bool.{true, false};
 ghost use Prim.Native.Nat.{_+_, _-_, _≤_, _<_};
 ghost use lib.ListN.{length};
 ghost use Rattle.definition.specs.Words.{if_then_else_};
 ghost use Rattle.definition.specs.Refusals.{enoughRoom, lastNextId};
-ghost use Rattle.slots.specs.View.{given, before, after};
+ghost use Rattle.slots.specs.View.{given, before, after, Whole};
 ghost use Rattle.slots.specs.Done.{Room, Done};
-ghost use Rattle.slots.specs.Slots.{maintenance, clearedReady, clear, shut};
+ghost use Rattle.slots.specs.Slots.{maintenance, markAsReady, clearedReady, clear, shut};
 ghost use Rattle.upkeep.specs.Stood.{Stood, Said, interrupting};
-use acts::Core;
+use acts::Progress;
 use definition::PoolState;
-use slots::Cells;
+use slots::Numbers;
 use slots::Head;
-use slots::Mode;
-use slots::Seats;
+use slots::Status;
+use slots::States;
 use slots::Times;
 use slots::Waiters;
 
 pub fn perform_maintenance(
     head: Head,
-    cells: &mut Cells,
+    numbers: &mut Numbers,
     times: &mut Times,
-    seats: &mut Seats,
+    states: &mut States,
     waiters: &mut Waiters,
     out: &mut [u8],
-) -> Core
-    requires { ⌜ Stood (given head cells times seats waiters) × (head .«next_connection_id» ≤ lastNextId) × (enoughRoom ≤ length (now out)) ⌝ }
-    ensures { λ r. ⌜ Done (maintenance (before head cells times seats waiters)) (head .serial) 0 (now (out .entry)) (after (r .head) cells times seats waiters) (r .count) (now (out .exit)) ⌝ }
+) -> Progress
+    requires { ⌜ Stood (given head numbers times states waiters) × (head .«next_connection_id» ≤ lastNextId) × (enoughRoom ≤ length (now out)) ⌝ }
+    ensures { λ r. ⌜ Done (maintenance (before head numbers times states waiters)) (head .serial) 0 (now (out .entry)) (after (r .head) numbers times states waiters) (r .count) (now (out .exit)) ⌝ }
 {
-    let c = sweeps::remove_perished_connections(head, cells, times, seats, waiters, out, 0);
+    let c = sweeps::remove_perished_connections(head, numbers, times, states, waiters, out, 0);
     let h = c.head;
     let k = c.count;
-    sweeps::ensure_min_connections(h, cells, times, seats, waiters, out, k)
+    sweeps::ensure_min_connections(h, numbers, times, states, waiters, out, k)
+}
+
+pub fn mark_as_ready(
+    head: Head,
+    numbers: &mut Numbers,
+    times: &mut Times,
+    states: &mut States,
+    waiters: &mut Waiters,
+    out: &mut [u8],
+    n: u32,
+) -> Progress
+    requires { ⌜ Whole (given head numbers times states waiters) × Room 1 n (now out) ⌝ }
+    ensures { λ r. ⌜ Done (markAsReady (before head numbers times states waiters)) (head .serial) n (now (out .entry)) (after (r .head) numbers times states waiters) (r .count) (now (out .exit)) ⌝ }
+{
+    let m = head.status;
+    let st = m.state;
+    if conditions::is_ready(st) {
+        return Progress {
+            head: head,
+            count: n,
+        };
+    }
+    table::emit(out, n, head.serial, 5, 0, 0, 0);
+    let mut h = head;
+    let ready = Status {
+        state: PoolState::Ready,
+        generation: m.generation,
+    };
+    h.status = ready;
+    Progress {
+        head: h,
+        count: n + 1,
+    }
 }
 
 // How many are lent: neither available nor pending.
@@ -76,33 +109,33 @@ fn next_generation(g: u32) -> u32
 // Record 6 and the waiters, of a Ready pool.
 fn clear_ready(
     head: Head,
-    cells: &mut Cells,
+    numbers: &mut Numbers,
     times: &mut Times,
-    seats: &mut Seats,
+    states: &mut States,
     waiters: &mut Waiters,
     out: &mut [u8],
     n: u32,
     timeout: bool,
     cause: u32,
-) -> Core
-    requires { ⌜ Stood (given head cells times seats waiters) × (head .mode .generation ≡ 4294967295 → ⊥) × Room (head .«waiting_count» + 1) n (now out) ⌝ }
-    ensures { λ r. ⌜ Done (clearedReady timeout cause (before head cells times seats waiters)) (head .serial) n (now (out .entry)) (after (r .head) cells times seats waiters) (r .count) (now (out .exit)) ⌝ }
+) -> Progress
+    requires { ⌜ Stood (given head numbers times states waiters) × (head .status .generation ≡ 4294967295 → ⊥) × Room (head .«waiting_count» + 1) n (now out) ⌝ }
+    ensures { λ r. ⌜ Done (clearedReady timeout cause (before head numbers times states waiters)) (head .serial) n (now (out .entry)) (after (r .head) numbers times states waiters) (r .count) (now (out .exit)) ⌝ }
 {
-    let m = head.mode;
+    let m = head.status;
     let st = m.state;
-    if acts::is_ready(st) {
+    if conditions::is_ready(st) {
         table::emit(
             out,
             n,
             head.serial,
             6,
             flag(timeout),
-            words::long(cause),
+            words::as_u64(cause),
             next_generation(m.generation),
         );
-        return sweeps::tell_all(head, cells, times, seats, waiters, out, n + 1, 19, cause);
+        return sweeps::tell_all(head, numbers, times, states, waiters, out, n + 1, 19, cause);
     }
-    Core {
+    Progress {
         head: head,
         count: n,
     }
@@ -111,27 +144,27 @@ fn clear_ready(
 // On timeout record 8 first, whatever the state. Generation plus 1, Paused with the new cause.
 pub fn clear(
     head: Head,
-    cells: &mut Cells,
+    numbers: &mut Numbers,
     times: &mut Times,
-    seats: &mut Seats,
+    states: &mut States,
     waiters: &mut Waiters,
     out: &mut [u8],
     timeout: bool,
     cause: u32,
-) -> Core
-    requires { ⌜ Stood (given head cells times seats waiters) × (head .mode .generation ≡ 4294967295 → ⊥) × (enoughRoom ≤ length (now out)) ⌝ }
-    ensures { λ r. ⌜ Done (clear timeout cause (before head cells times seats waiters)) (head .serial) 0 (now (out .entry)) (after (r .head) cells times seats waiters) (r .count) (now (out .exit)) ⌝ }
+) -> Progress
+    requires { ⌜ Stood (given head numbers times states waiters) × (head .status .generation ≡ 4294967295 → ⊥) × (enoughRoom ≤ length (now out)) ⌝ }
+    ensures { λ r. ⌜ Done (clear timeout cause (before head numbers times states waiters)) (head .serial) 0 (now (out .entry)) (after (r .head) numbers times states waiters) (r .count) (now (out .exit)) ⌝ }
 {
-    let m = head.mode;
+    let m = head.status;
     let k = interrupt(head, out, timeout);
-    let c = clear_ready(head, cells, times, seats, waiters, out, k, timeout, cause);
+    let c = clear_ready(head, numbers, times, states, waiters, out, k, timeout, cause);
     let mut h = c.head;
-    let paused = Mode {
+    let paused = Status {
         state: PoolState::Paused(cause),
         generation: next_generation(m.generation),
     };
-    h.mode = paused;
-    Core {
+    h.status = paused;
+    Progress {
         head: h,
         count: c.count,
     }
@@ -140,28 +173,28 @@ pub fn clear(
 // The available ones front to back, the waiters front to back, then record 7.
 pub fn shut(
     head: Head,
-    cells: &mut Cells,
+    numbers: &mut Numbers,
     times: &mut Times,
-    seats: &mut Seats,
+    states: &mut States,
     waiters: &mut Waiters,
     out: &mut [u8],
-) -> Core
-    requires { ⌜ Stood (given head cells times seats waiters) × (enoughRoom ≤ length (now out)) ⌝ }
-    ensures { λ r. ⌜ Done (shut (before head cells times seats waiters)) (head .serial) 0 (now (out .entry)) (after (r .head) cells times seats waiters) (r .count) (now (out .exit)) ⌝ }
+) -> Progress
+    requires { ⌜ Stood (given head numbers times states waiters) × (enoughRoom ≤ length (now out)) ⌝ }
+    ensures { λ r. ⌜ Done (shut (before head numbers times states waiters)) (head .serial) 0 (now (out .entry)) (after (r .head) numbers times states waiters) (r .count) (now (out .exit)) ⌝ }
 {
-    let m = head.mode;
-    let c = sweeps::close_available(head, cells, times, seats, waiters, out, 0);
+    let m = head.status;
+    let c = sweeps::close_available(head, numbers, times, states, waiters, out, 0);
     let h = c.head;
-    let d = sweeps::tell_all(h, cells, times, seats, waiters, out, c.count, 20, 0);
+    let d = sweeps::tell_all(h, numbers, times, states, waiters, out, c.count, 20, 0);
     let mut g = d.head;
     let k = d.count;
     table::emit(out, k, g.serial, 7, 0, 0, 0);
-    let closed = Mode {
+    let closed = Status {
         state: PoolState::Closed,
         generation: m.generation,
     };
-    g.mode = closed;
-    Core {
+    g.status = closed;
+    Progress {
         head: g,
         count: k + 1,
     }

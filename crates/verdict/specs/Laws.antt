@@ -16,13 +16,13 @@ use Rattle.definition.specs.declared.Refusal.{Refusal}
 use Rattle.definition.specs.declared.Refusal.the-variants.{ClockBack, AfterClose, NumbersSpent}
 use Rattle.slots.specs.View.{SlotPool}
 use Rattle.slots.specs.Slots.{slotAt}
-use Rattle.slots.specs.Call.{slotOf, stateOf, timeOf, ofKind, orAt, target, tests, verdict}
-use Rattle.slots.specs.declared.Mode.{Mode}
+use Rattle.slots.specs.Call.{slotOf, stateOf, timeOf, kindTests, orAccept, target, tests, verdict}
+use Rattle.slots.specs.declared.Status.{Status}
 use Rattle.slots.specs.declared.Verdict.{Verdict}
-use Rattle.slots.specs.declared.Verdict.the-variants.{Refuse, At}
-use Rattle.verdict.specs.Look.{barOf, spent, commonTests, stateList, timeList, pinList}
+use Rattle.slots.specs.declared.Verdict.the-variants.{Refuse, Accept}
+use Rattle.verdict.specs.Look.{commonOf, spent, commonTests, stateList, timeList, pinList}
 use Rattle.verdict.specs.declared.Found.{Found}
-use Rattle.verdict.specs.declared.Bar.the-variants.{By, Open}
+use Rattle.verdict.specs.declared.Common.the-variants.{Refuse, Pass}
 
 -- one state, as a range
 pub one-state : (k s : ℕ) → (s =? k) ≡ (k to k holds s)
@@ -55,7 +55,7 @@ clear-no (ReturnToPinner n) h = refl
 clear-no (TakeFromPinner n) h = refl
 clear-no Close h = refl
 
-module _ (clock nextId : ℕ) (m : Mode) (now : ℕ) (e : Event) where
+module _ (clock nextId : ℕ) (m : Status) (now : ℕ) (e : Event) where
   pub common-back : now < clock → first (commonTests clock nextId m now e) ≡ some ClockBack
   unfolding first if_then_else_
   common-back h = rw (lt-ltb now clock h)
@@ -91,35 +91,35 @@ first-by (x if false) (y if true) c ts r h = h
 first-by (x if false) (y if false) (w if true) ts r h = h
 first-by (x if false) (y if false) (w if false) ts r h = let z : _≡_ {A = ℕ} 0 1 = cc in absurd (omega arith)
 
-bar-by : (o : Option Refusal) (r : Refusal) → barOf o ≡ By r → o ≡ some r
-bar-by none r h = let z : _≡_ {A = ℕ} 0 1 = cc in absurd (omega arith)
-bar-by (some s) r h = let z : s ≡ r = cc in ap some z
+common-refused : (o : Option Refusal) (r : Refusal) → commonOf o ≡ Refuse r → o ≡ some r
+common-refused none r h = let z : _≡_ {A = ℕ} 0 1 = cc in absurd (omega arith)
+common-refused (some s) r h = let z : s ≡ r = cc in ap some z
 
-bar-open : (o : Option Refusal) → barOf o ≡ Open → o ≡ none
-bar-open none h = refl
-bar-open (some s) h = let z : _≡_ {A = ℕ} 0 1 = cc in absurd (omega arith)
+common-passed : (o : Option Refusal) → commonOf o ≡ Pass → o ≡ none
+common-passed none h = refl
+common-passed (some s) h = let z : _≡_ {A = ℕ} 0 1 = cc in absurd (omega arith)
 
 -- the verdict, by what the shared tests say
-module _ (p : SlotPool) (e : Event) (now : ℕ) (m : Mode) (s : m .state ≡ p .state) (g : m .generation ≡ p .generation) where
-  pub verdict-by : (r : Refusal) → barOf (first (commonTests (p .clock) (p .nextId) m now e)) ≡ By r → verdict p e now ≡ Refuse r
+module _ (p : SlotPool) (e : Event) (now : ℕ) (m : Status) (s : m .state ≡ p .state) (g : m .generation ≡ p .generation) where
+  pub verdict-by : (r : Refusal) → commonOf (first (commonTests (p .clock) (p .nextId) m now e)) ≡ Refuse r → verdict p e now ≡ Refuse r
   unfolding verdict tests
   verdict-by r h =
-      let k = rw (s, g) at (bar-by (first (commonTests (p .clock) (p .nextId) m now e)) r h) in
-      ap (orAt (target p e)) (first-by _ _ _ (ofKind p e now) r k)
+      let k = rw (s, g) at (common-refused (first (commonTests (p .clock) (p .nextId) m now e)) r h) in
+      ap (orAccept (target p e)) (first-by _ _ _ (kindTests p e now) r k)
 
-  pub verdict-open : barOf (first (commonTests (p .clock) (p .nextId) m now e)) ≡ Open → verdict p e now ≡ orAt (target p e) (first (ofKind p e now))
+  pub verdict-open : commonOf (first (commonTests (p .clock) (p .nextId) m now e)) ≡ Pass → verdict p e now ≡ orAccept (target p e) (first (kindTests p e now))
   unfolding verdict tests
   verdict-open h =
-      let k = rw (s, g) at (bar-open (first (commonTests (p .clock) (p .nextId) m now e)) h) in
-      ap (orAt (target p e)) (first-of _ _ _ (ofKind p e now) k)
+      let k = rw (s, g) at (common-passed (first (commonTests (p .clock) (p .nextId) m now e)) h) in
+      ap (orAccept (target p e)) (first-of _ _ _ (kindTests p e now) k)
 
 -- what was looked up, as the tests on slots have it
 module _ (p : SlotPool) (id : ℕ) (f : Found) (a : f .at ≡ slotOf p id) (s : f .state ≡ slotAt p (f .at) .state) (t : f .time ≡ slotAt p (f .at) .time) where
-  pub looked-state : (low high : ℕ) → orAt (f .at) (first (stateList (f .state) low high)) ≡ orAt (slotOf p id) (first (stateList (stateOf p id) low high))
+  pub looked-state : (low high : ℕ) → orAccept (f .at) (first (stateList (f .state) low high)) ≡ orAccept (slotOf p id) (first (stateList (stateOf p id) low high))
   looked-state low high = rw (s, a)
 
-  pub looked-time : (low high second now : ℕ) → orAt (f .at) (first (timeList (f .state) low high second (f .time) now)) ≡ orAt (slotOf p id) (first (timeList (stateOf p id) low high second (timeOf p id) now))
+  pub looked-time : (low high second now : ℕ) → orAccept (f .at) (first (timeList (f .state) low high second (f .time) now)) ≡ orAccept (slotOf p id) (first (timeList (stateOf p id) low high second (timeOf p id) now))
   looked-time low high second now = rw (s, t, a)
 
-  pub looked-pin : orAt (f .at) (first (pinList (f .state))) ≡ orAt (slotOf p id) (first (pinList (stateOf p id)))
+  pub looked-pin : orAccept (f .at) (first (pinList (f .state))) ≡ orAccept (slotOf p id) (first (pinList (stateOf p id)))
   looked-pin = rw (s, a)

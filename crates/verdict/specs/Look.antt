@@ -6,7 +6,7 @@ use mathlib.Core.Option.{Option, none, some}
 use Prim.Native.Nat.{ℕ, _%_}
 use lib.ListN.{getD, take, drop}
 use Rattle.definition.specs.Words.{_<?_, _≤?_, _=?_}
-use Rattle.definition.specs.Pool.{most, isClosed, queueLength}
+use Rattle.definition.specs.Pool.{slotCount, isClosed, queueLength}
 use Rattle.definition.specs.Steps.{kindNo, _to_holds_}
 use Rattle.definition.specs.Refusals.{Test, _if_, first, takenAfterClose, lastNextId, lastGeneration, wrongTime}
 use Rattle.definition.specs.declared.Event.{Event}
@@ -16,26 +16,26 @@ use Rattle.definition.specs.declared.Refusal.the-variants.{ClockBack, AfterClos
 use Rattle.slots.specs.Order.{place, placeOf}
 use Rattle.slots.specs.View.{rows}
 use Rattle.slots.specs.Slots.{vacant}
-use Rattle.slots.specs.declared.Mode.{Mode}
+use Rattle.slots.specs.declared.Status.{Status}
 use Rattle.verdict.specs.declared.Found.{Found}
-use Rattle.verdict.specs.declared.Bar.{Bar}
-use Rattle.verdict.specs.declared.Bar.the-variants.{By, Open}
+use Rattle.verdict.specs.declared.Common.{Common}
+use Rattle.verdict.specs.declared.Common.the-variants.{Refuse, Pass}
 
 -- what is found is the slot of the id, and what stands there
-pub record Looks (cells times seats : List ℕ) (id : ℕ) (f : Found) : Type 0 where
-  pub at : f .at ≡ place id most (take most cells)
-  pub state : f .state ≡ getD (rows (drop most cells) times (take most seats)) (f .at) vacant .state
-  pub time : f .time ≡ getD (rows (drop most cells) times (take most seats)) (f .at) vacant .time
+pub record Looks (numbers times states : List ℕ) (id : ℕ) (f : Found) : Type 0 where
+  pub at : f .at ≡ place id slotCount (take slotCount numbers)
+  pub state : f .state ≡ getD (rows (drop slotCount numbers) times (take slotCount states)) (f .at) vacant .state
+  pub time : f .time ≡ getD (rows (drop slotCount numbers) times (take slotCount states)) (f .at) vacant .time
 
-abbrev pub barOf : Option Refusal → Bar
-barOf none = Open
-barOf (some r) = By r
+abbrev pub commonOf : Option Refusal → Common
+commonOf none = Pass
+commonOf (some r) = Refuse r
 
 abbrev pub spent : (kind generation nextId : ℕ) → Bool
 spent kind generation nextId = not (kind =? 15) && lastNextId <? nextId || kind =? 5 && generation =? lastGeneration
 
 -- 3, 4 and 5
-abbrev pub commonTests : (clock nextId : ℕ) → Mode → (now : ℕ) → Event → List Test
+abbrev pub commonTests : (clock nextId : ℕ) → Status → (now : ℕ) → Event → List Test
 commonTests clock nextId m now e =
     (ClockBack if now <? clock) ∷
     (AfterClose if isClosed (m .state) && not (takenAfterClose e)) ∷

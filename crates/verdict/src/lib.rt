@@ -4,21 +4,21 @@ ghost use mathlib.Core.Bool.{true, false, not, _&&_, _||_};
 ghost use Prim.Native.Nat.{_+_, _≤_, _<_, _%_};
 ghost use lib.ListN.{length, getD, take, drop};
 ghost use Rattle.definition.specs.Words.{if_then_else_, _≤?_, _<?_, _=?_};
-ghost use Rattle.definition.specs.Pool.{most, queueLength};
+ghost use Rattle.definition.specs.Pool.{slotCount, queueLength};
 ghost use Rattle.definition.specs.Steps.{kindNo, _to_holds_};
 ghost use Rattle.definition.specs.Refusals.{first, wrongTime};
 ghost use Rattle.slots.specs.Order.{placeOf};
 ghost use Rattle.slots.specs.View.{rows, poolOf, Whole};
-ghost use Rattle.slots.specs.Call.{ofKind, orAt, target, verdict};
-ghost use Rattle.verdict.specs.Look.{Looks, barOf, spent, commonTests, requestList, abandonList, stateList, timeList, pinList};
+ghost use Rattle.slots.specs.Call.{kindTests, orAccept, target, verdict};
+ghost use Rattle.verdict.specs.Look.{Looks, commonOf, spent, commonTests, requestList, abandonList, stateList, timeList, pinList};
 use definition::Event;
 use definition::Refusal;
-use slots::Cells;
+use slots::Numbers;
 use slots::Head;
-use slots::Mode;
+use slots::Status;
 use slots::QUEUE;
 use slots::SLOTS;
-use slots::Seats;
+use slots::States;
 use slots::Times;
 use slots::Verdict;
 use slots::Waiters;
@@ -31,9 +31,9 @@ pub struct Found {
 }
 
 // What the tests that every kind shares say.
-pub enum Bar {
-    By(Refusal),
-    Open,
+pub enum Common {
+    Refuse(Refusal),
+    Pass,
 }
 
 pub fn kind_no(e: Event) -> u8
@@ -94,35 +94,35 @@ fn numbers_spent(kind: u8, generation: u32, next_id: u32) -> bool
 }
 
 // 3, 4 and 5.
-pub fn barred(clock: u64, next_id: u32, m: Mode, time: u64, e: Event) -> Bar
-    ensures { λ r. ⌜ r ≡ barOf (first (commonTests clock «next_id» m time e)) ⌝ }
+pub fn common_verdict(clock: u64, next_id: u32, m: Status, time: u64, e: Event) -> Common
+    ensures { λ r. ⌜ r ≡ commonOf (first (commonTests clock «next_id» m time e)) ⌝ }
 {
     if time < clock {
-        return Bar::By(Refusal::ClockBack);
+        return Common::Refuse(Refusal::ClockBack);
     }
     let kind = kind_no(e);
     let st = m.state;
-    if acts::is_closed(st) {
+    if conditions::is_closed(st) {
         if taken_after_close(kind) {
-            return Bar::Open;
+            return Common::Pass;
         }
-        return Bar::By(Refusal::AfterClose);
+        return Common::Refuse(Refusal::AfterClose);
     }
     if numbers_spent(kind, m.generation, next_id) {
-        return Bar::By(Refusal::NumbersSpent);
+        return Common::Refuse(Refusal::NumbersSpent);
     }
-    Bar::Open
+    Common::Pass
 }
 
-pub fn look(cells: &Cells, times: &Times, seats: &Seats, id: u32) -> Found
-    requires { ⌜ length (rows (drop most (now cells)) (now times) (take most (now seats))) ≡ most ⌝ }
-    ensures { λ r. ⌜ Looks (now (cells .entry)) (now (times .entry)) (now (seats .entry)) id r ⌝ }
+pub fn look(numbers: &Numbers, times: &Times, states: &States, id: u32) -> Found
+    requires { ⌜ length (rows (drop slotCount (now numbers)) (now times) (take slotCount (now states))) ≡ slotCount ⌝ }
+    ensures { λ r. ⌜ Looks (now (numbers .entry)) (now (times .entry)) (now (states .entry)) id r ⌝ }
 {
-    let i = table::find(cells, id);
+    let i = table::find(numbers, id);
     if i < SLOTS {
         return Found {
             at: i,
-            state: seats[i],
+            state: states[i],
             time: times[i],
         };
     }
@@ -135,7 +135,7 @@ pub fn look(cells: &Cells, times: &Times, seats: &Seats, id: u32) -> Found
 
 // 6 and 7, of a request.
 fn request_verdict(last_request: u32, waiting: usize, id: u32) -> Verdict
-    ensures { λ r. ⌜ r ≡ orAt 0 (first (requestList «last_request» waiting id)) ⌝ }
+    ensures { λ r. ⌜ r ≡ orAccept 0 (first (requestList «last_request» waiting id)) ⌝ }
 {
     if id <= last_request {
         return Verdict::Refuse(Refusal::OldRequest);
@@ -143,18 +143,18 @@ fn request_verdict(last_request: u32, waiting: usize, id: u32) -> Verdict
     if QUEUE <= waiting {
         return Verdict::Refuse(Refusal::QueueFull);
     }
-    Verdict::At(0)
+    Verdict::Accept(0)
 }
 
 // 11, of an abandon.
 fn abandon_verdict(waiters: &Waiters, waiting: usize, id: u32) -> Verdict
     requires { ⌜ waiting ≤ queueLength ⌝ }
-    ensures { λ r. ⌜ r ≡ orAt (placeOf id waiting (now (waiters .entry))) (first (abandonList (now (waiters .entry)) waiting id)) ⌝ }
+    ensures { λ r. ⌜ r ≡ orAccept (placeOf id waiting (now (waiters .entry))) (first (abandonList (now (waiters .entry)) waiting id)) ⌝ }
 {
     let k = table::find_waiter(waiters, waiting, id);
     if k < waiting {
         if waiters[k] % 4 < 2 {
-            return Verdict::At(k);
+            return Verdict::Accept(k);
         }
     }
     Verdict::Refuse(Refusal::NotWaiting)
@@ -162,11 +162,11 @@ fn abandon_verdict(waiters: &Waiters, waiting: usize, id: u32) -> Verdict
 
 // 8, where the connection has to be in one state, or in one of a range.
 fn in_state(at: usize, state: u8, low: u8, high: u8) -> Verdict
-    ensures { λ r. ⌜ r ≡ orAt at (first (stateList state low high)) ⌝ }
+    ensures { λ r. ⌜ r ≡ orAccept at (first (stateList state low high)) ⌝ }
 {
     if low <= state {
         if state <= high {
-            return Verdict::At(at);
+            return Verdict::Accept(at);
         }
     }
     Verdict::Refuse(Refusal::WrongState)
@@ -174,7 +174,7 @@ fn in_state(at: usize, state: u8, low: u8, high: u8) -> Verdict
 
 // 8, then 9.
 fn in_time(f: Found, low: u8, high: u8, second: u64, time: u64) -> Verdict
-    ensures { λ r. ⌜ r ≡ orAt (f .at) (first (timeList (f .state) low high second (f .time) time)) ⌝ }
+    ensures { λ r. ⌜ r ≡ orAccept (f .at) (first (timeList (f .state) low high second (f .time) time)) ⌝ }
 {
     if f.state < low {
         return Verdict::Refuse(Refusal::WrongState);
@@ -188,12 +188,12 @@ fn in_time(f: Found, low: u8, high: u8, second: u64, time: u64) -> Verdict
     if second < f.time {
         return Verdict::Refuse(Refusal::WrongTime);
     }
-    Verdict::At(f.at)
+    Verdict::Accept(f.at)
 }
 
 // 12 before 8, of a pin.
 fn pin_verdict(at: usize, state: u8) -> Verdict
-    ensures { λ r. ⌜ r ≡ orAt at (first (pinList state)) ⌝ }
+    ensures { λ r. ⌜ r ≡ orAccept at (first (pinList state)) ⌝ }
 {
     if state == 3 {
         return Verdict::Refuse(Refusal::AlreadyPinned);
@@ -202,86 +202,86 @@ fn pin_verdict(at: usize, state: u8) -> Verdict
         return Verdict::Refuse(Refusal::AlreadyPinned);
     }
     if state == 2 {
-        return Verdict::At(at);
+        return Verdict::Accept(at);
     }
     Verdict::Refuse(Refusal::WrongState)
 }
 
 // The tests of one kind of event.
-pub fn of_kind(
+pub fn kind_verdict(
     head: Head,
-    cells: &Cells,
+    numbers: &Numbers,
     times: &Times,
-    seats: &Seats,
+    states: &States,
     waiters: &Waiters,
     e: Event,
     time: u64,
 ) -> Verdict
-    requires { ⌜ Whole (poolOf head (now cells) (now times) (now seats) (now waiters)) × (head .«waiting_count» ≤ queueLength) ⌝ }
-    ensures { λ r. ⌜ r ≡ orAt (target (poolOf head (now (cells .entry)) (now (times .entry)) (now (seats .entry)) (now (waiters .entry))) e) (first (ofKind (poolOf head (now (cells .entry)) (now (times .entry)) (now (seats .entry)) (now (waiters .entry))) e time)) ⌝ }
+    requires { ⌜ Whole (poolOf head (now numbers) (now times) (now states) (now waiters)) × (head .«waiting_count» ≤ queueLength) ⌝ }
+    ensures { λ r. ⌜ r ≡ orAccept (target (poolOf head (now (numbers .entry)) (now (times .entry)) (now (states .entry)) (now (waiters .entry))) e) (first (kindTests (poolOf head (now (numbers .entry)) (now (times .entry)) (now (states .entry)) (now (waiters .entry))) e time)) ⌝ }
 {
     match e {
         Event::CheckOut(id) => request_verdict(head.last_request, head.waiting_count, id),
         Event::WarmPool(id) => request_verdict(head.last_request, head.waiting_count, id),
         Event::Abandon(id) => abandon_verdict(waiters, head.waiting_count, id),
         Event::CheckIn(id, _, _, let_go) => in_time(
-            look(cells, times, seats, id),
+            look(numbers, times, states, id),
             2,
             4,
             let_go,
             time,
         ),
-        Event::Clear(_, _) => Verdict::At(0),
-        Event::MarkAsReady => Verdict::At(0),
+        Event::Clear(_, _) => Verdict::Accept(0),
+        Event::MarkAsReady => Verdict::Accept(0),
         Event::Succeeded(id) => {
-            let f = look(cells, times, seats, id);
+            let f = look(numbers, times, states, id);
             in_state(f.at, f.state, 5, 5)
         }
         Event::SucceededForPool(id, opened) => in_time(
-            look(cells, times, seats, id),
+            look(numbers, times, states, id),
             6,
             6,
             opened,
             time,
         ),
         Event::Failed(id) => {
-            let f = look(cells, times, seats, id);
+            let f = look(numbers, times, states, id);
             in_state(f.at, f.state, 5, 6)
         }
-        Event::Maintenance => Verdict::At(0),
-        Event::FillPool => Verdict::At(0),
+        Event::Maintenance => Verdict::Accept(0),
+        Event::FillPool => Verdict::Accept(0),
         Event::Pin(id) => {
-            let f = look(cells, times, seats, id);
+            let f = look(numbers, times, states, id);
             pin_verdict(f.at, f.state)
         }
         Event::ReturnToPinner(id) => {
-            let f = look(cells, times, seats, id);
+            let f = look(numbers, times, states, id);
             in_state(f.at, f.state, 3, 3)
         }
         Event::TakeFromPinner(id) => {
-            let f = look(cells, times, seats, id);
+            let f = look(numbers, times, states, id);
             in_state(f.at, f.state, 3, 4)
         }
-        Event::Close => Verdict::At(0),
+        Event::Close => Verdict::Accept(0),
     }
 }
 
 // All tests of an event, in order.
 pub fn verdict(
     head: Head,
-    cells: &Cells,
+    numbers: &Numbers,
     times: &Times,
-    seats: &Seats,
+    states: &States,
     waiters: &Waiters,
     e: Event,
     time: u64,
 ) -> Verdict
-    requires { ⌜ Whole (poolOf head (now cells) (now times) (now seats) (now waiters)) × (head .«waiting_count» ≤ queueLength) ⌝ }
-    ensures { λ r. ⌜ r ≡ verdict (poolOf head (now (cells .entry)) (now (times .entry)) (now (seats .entry)) (now (waiters .entry))) e time ⌝ }
+    requires { ⌜ Whole (poolOf head (now numbers) (now times) (now states) (now waiters)) × (head .«waiting_count» ≤ queueLength) ⌝ }
+    ensures { λ r. ⌜ r ≡ verdict (poolOf head (now (numbers .entry)) (now (times .entry)) (now (states .entry)) (now (waiters .entry))) e time ⌝ }
 {
-    let m = head.mode;
-    match barred(head.clock, head.next_connection_id, m, time, e) {
-        Bar::By(r) => Verdict::Refuse(r),
-        Bar::Open => of_kind(head, cells, times, seats, waiters, e, time),
+    let m = head.status;
+    match common_verdict(head.clock, head.next_connection_id, m, time, e) {
+        Common::Refuse(r) => Verdict::Refuse(r),
+        Common::Pass => kind_verdict(head, numbers, times, states, waiters, e, time),
     }
 }

@@ -13,14 +13,14 @@ pub fn both(a: bool, b: bool) -> bool
 }
 
 // A seat as an index.
-pub fn wide(x: u8) -> usize
+pub fn as_index(x: u8) -> usize
     ensures { λ r. ⌜ r ≡ x ⌝ }
 {
     x as usize
 }
 
 // An id as a record's number.
-pub fn long(x: u32) -> u64
+pub fn as_u64(x: u32) -> u64
     ensures { λ r. ⌜ r ≡ x ⌝ }
 {
     x as u64

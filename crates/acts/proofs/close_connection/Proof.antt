@@ -10,35 +10,35 @@ use Rattle.acts.proofs.close_connection.Statement.{statement}
 use Rattle.acts.proofs.close_connection.Tie as tie
 use Rattle.acts.proofs.close_connection.Reads as reads
 use Rattle.acts.proofs.close_connection.Lts as lts
-use Rattle.words.proofs.long.Reads as long-reads
+use Rattle.words.proofs.as_u64.Reads as as-u64-reads
 use Rattle.table.proofs.emit.Reads as emit-reads
 
-mul-long : tie.Need-mul-long
-mul-long c = search needs
+mul-as-u64 : tie.Need-mul-as-u64
+mul-as-u64 c = search needs
 
-element-copy-out-long : tie.Need-element-copy-out-long
-element-copy-out-long c = search needs
+element-copy-out-as-u64 : tie.Need-element-copy-out-as-u64
+element-copy-out-as-u64 c = search needs
 
-long-requires : tie.Need-long-requires
-long-requires c κs = search needs
+as-u64-requires : tie.Need-as-u64-requires
+as-u64-requires c κs = search needs
 
 emit-requires : tie.Need-emit-requires
 emit-requires c κs = search needs
 
-mul-cells : tie.Need-mul-cells
-mul-cells c = search needs
+mul-numbers : tie.Need-mul-numbers
+mul-numbers c = search needs
 
-element-write-cells : tie.Need-element-write-cells
-element-write-cells c = search needs
+element-write-numbers : tie.Need-element-write-numbers
+element-write-numbers c = search needs
 
-add-cells : tie.Need-add-cells
-add-cells c = search needs
+add-numbers : tie.Need-add-numbers
+add-numbers c = search needs
 
-mul-cells-2 : tie.Need-mul-cells-2
-mul-cells-2 c = search needs
+mul-numbers-2 : tie.Need-mul-numbers-2
+mul-numbers-2 c = search needs
 
-element-write-cells-2 : tie.Need-element-write-cells-2
-element-write-cells-2 c = search needs
+element-write-numbers-2 : tie.Need-element-write-numbers-2
+element-write-numbers-2 c = search needs
 
 mul-times : tie.Need-mul-times
 mul-times c = search needs
@@ -46,8 +46,8 @@ mul-times c = search needs
 element-write-times : tie.Need-element-write-times
 element-write-times c = search needs
 
-element-write-seats : tie.Need-element-write-seats
-element-write-seats c = search needs
+element-write-states : tie.Need-element-write-states
+element-write-states c = search needs
 
 sub-h : tie.Need-sub-h
 sub-h c = search needs
@@ -65,27 +65,27 @@ returns c =
     let r = c .before .before .before .before .before .before .before .before .pre in
     let i = a .i in
     record {
-      pool = put-pool _ (now (a .cells)) (now (a .times)) (now (a .seats)) (now (a .waiters)) i 0 0 0 0 (r .1 .slot);
+      pool = put-pool _ (now (a .numbers)) (now (a .times)) (now (a .states)) (now (a .waiters)) i 0 0 0 0 (r .1 .slot);
       count = refl;
-      out = rw (reason-number (a .reason) (r .3) (r .4), id-at (a .head) (now (a .cells)) (now (a .times)) (now (a .seats)) (now (a .waiters)) i (r .1 .slot), ← c .before .before .before .before .long .ensures) (c .before .before .before .emit .ensures);
+      out = rw (reason-number (a .reason) (r .3) (r .4), id-at (a .head) (now (a .numbers)) (now (a .times)) (now (a .states)) (now (a .waiters)) i (r .1 .slot), ← c .before .before .before .before .as-u64 .ensures) (c .before .before .before .emit .ensures);
     }
 
 pub close-connection-spec : {M : Type 1} → statement M
 close-connection-spec =
     tie.close
     (tie.spec
-    mul-long
-    element-copy-out-long
-    long-requires
+    mul-as-u64
+    element-copy-out-as-u64
+    as-u64-requires
     emit-requires
-    mul-cells
-    element-write-cells
-    add-cells
-    mul-cells-2
-    element-write-cells-2
+    mul-numbers
+    element-write-numbers
+    add-numbers
+    mul-numbers-2
+    element-write-numbers-2
     mul-times
     element-write-times
-    element-write-seats
+    element-write-states
     sub-h
     add-t18
     same-length

@@ -12,17 +12,17 @@ use Rattle.acts.proofs.pop_back.Lts as lts
 sub-k : tie.Need-sub-k
 sub-k c = search needs
 
-add-seats : tie.Need-add-seats
-add-seats c = search needs
+add-states : tie.Need-add-states
+add-states c = search needs
 
-element-write-seats : tie.Need-element-write-seats
-element-write-seats c = search needs
+element-write-states : tie.Need-element-write-states
+element-write-states c = search needs
 
 returns : tie.Need-returns
 unfolding popBack
 returns c =
     let a = c .before .args in
-    list-pool _ (now (a .cells)) (now (a .times)) (now (a .seats)) (now (a .waiters)) (a .head .«available_count» - 1) 0
+    list-pool _ (now (a .numbers)) (now (a .times)) (now (a .states)) (now (a .waiters)) (a .head .«available_count» - 1) 0
 
 pub pop-back-spec : {M : Type 1} → statement M
-pop-back-spec = tie.close (tie.spec sub-k add-seats element-write-seats returns)
+pop-back-spec = tie.close (tie.spec sub-k add-states element-write-states returns)

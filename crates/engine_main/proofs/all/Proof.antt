@@ -12,10 +12,10 @@ use Rattle.engine_main.proofs.run.Reads as run-reads
 use Rattle.io.proofs.read_full.Reads as read-full-reads
 
 abbrev Inv-loop : tie.InvT-loop
-Inv-loop cells₀ times₀ seats₀ waiters₀ buf₀ out₀ h₀ t₀ turns₀ cells times seats waiters buf out h t turns = (length buf ≡ length buf₀) × (length out ≡ length out₀) × Formed (poolOf h cells times seats waiters)
+Inv-loop cells₀ times₀ seats₀ waiters₀ buf₀ out₀ h₀ t₀ turns₀ numbers times states waiters buf out h t turns = (length buf ≡ length buf₀) × (length out ≡ length out₀) × Formed (poolOf h numbers times states waiters)
 
 abbrev μ-loop : tie.MeasureT-loop
-μ-loop cells₀ times₀ seats₀ waiters₀ buf₀ out₀ h₀ t₀ turns₀ cells times seats waiters buf out h t turns = turns
+μ-loop cells₀ times₀ seats₀ waiters₀ buf₀ out₀ h₀ t₀ turns₀ numbers times states waiters buf out h t turns = turns
 
 none-requires : tie.Need-none-requires Inv-loop μ-loop
 none-requires c κs = search needs

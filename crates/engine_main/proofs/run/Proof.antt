@@ -16,10 +16,10 @@ use Rattle.event.proofs.call.Reads as call-reads
 use Rattle.text.proofs.frame_of.Reads as frame-of-reads
 
 abbrev Inv-loop : tie.InvT-loop
-Inv-loop cells₀ times₀ seats₀ waiters₀ frames out₀ h₀ t₀ at₀ cells times seats waiters out h t at = (at ≤ length frames) × (length out ≡ length out₀) × Formed (poolOf h cells times seats waiters)
+Inv-loop cells₀ times₀ seats₀ waiters₀ frames out₀ h₀ t₀ at₀ numbers times states waiters out h t at = (at ≤ length frames) × (length out ≡ length out₀) × Formed (poolOf h numbers times states waiters)
 
 abbrev μ-loop : tie.MeasureT-loop
-μ-loop cells₀ times₀ seats₀ waiters₀ frames out₀ h₀ t₀ at₀ cells times seats waiters out h t at = length frames - at
+μ-loop cells₀ times₀ seats₀ waiters₀ frames out₀ h₀ t₀ at₀ numbers times states waiters out h t at = length frames - at
 
 loop-holds : tie.Need-loop-holds Inv-loop μ-loop
 loop-holds c = (omega arith, refl, search needs)

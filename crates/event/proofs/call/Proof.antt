@@ -14,7 +14,7 @@ use Rattle.event.proofs.step.Reads as step-reads
 returns : tie.Need-returns
 returns c =
     let a = c .before .before .args in
-    sym (call-short (poolOf (a .head) (now (a .cells)) (now (a .times)) (now (a .seats)) (now (a .waiters))) (now (a .out)) (a .frame) (c .if1 .taken))
+    sym (call-short (poolOf (a .head) (now (a .numbers)) (now (a .times)) (now (a .states)) (now (a .waiters))) (now (a .out)) (a .frame) (c .if1 .taken))
 
 enum-known-frame : tie.Need-enum-known-frame
 enum-known-frame c = search needs
@@ -31,12 +31,12 @@ same-length c = search needs
 returns-2 : tie.Need-returns-2
 returns-2 c =
     let a = c .before .before .before .before .before .before .before .before .before .before .before .before .before .args in
-    rw (c .before .before .before .before .before .before .before .before .before .frame .given .1, call-good (poolOf (a .head) (now (a .cells)) (now (a .times)) (now (a .seats)) (now (a .waiters))) (now (a .out)) _ _ (c .before .before .before .before .before .before .before .before .before .before .before .if1 .left)) (c .before .before .step .ensures)
+    rw (c .before .before .before .before .before .before .before .before .before .frame .given .1, call-good (poolOf (a .head) (now (a .numbers)) (now (a .times)) (now (a .states)) (now (a .waiters))) (now (a .out)) _ _ (c .before .before .before .before .before .before .before .before .before .before .before .if1 .left)) (c .before .before .step .ensures)
 
 returns-3 : tie.Need-returns-3
 returns-3 c =
     let a = c .before .before .before .before .args in
-    rw (c .enum-told .given .1) (sym (call-bad (poolOf (a .head) (now (a .cells)) (now (a .times)) (now (a .seats)) (now (a .waiters))) (now (a .out)) (c .before .before .if1 .left)))
+    rw (c .enum-told .given .1) (sym (call-bad (poolOf (a .head) (now (a .numbers)) (now (a .times)) (now (a .states)) (now (a .waiters))) (now (a .out)) (c .before .before .if1 .left)))
 
 pub call-spec : {M : Type 1} → statement M
 call-spec =

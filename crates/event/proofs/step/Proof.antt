@@ -34,7 +34,7 @@ wrapping-add-u32-requires c κs = search needs
 returns : tie.Need-returns
 returns c =
     let a = c .before .before .before .before .before .before .before .before .before .args in
-    sym (step-refused (poolOf (a .head) (now (a .cells)) (now (a .times)) (now (a .seats)) (now (a .waiters))) (now (a .out)) (a .e) (a .time) _ (sym (c .before .before .before .verdict .ensures) ∙ c .before .r .given .1))
+    sym (step-refused (poolOf (a .head) (now (a .numbers)) (now (a .times)) (now (a .states)) (now (a .waiters))) (now (a .out)) (a .e) (a .time) _ (sym (c .before .before .before .verdict .ensures) ∙ c .before .r .given .1))
 
 same-length : tie.Need-same-length
 same-length c = search needs
@@ -42,8 +42,8 @@ same-length c = search needs
 returns-2 : tie.Need-returns-2
 returns-2 c =
     let a = c .before .before .before .before .before .before .before .before .before .before .before .before .before .before .before .before .before .before .before .args in
-    done-world (poolOf (a .head) (now (a .cells)) (now (a .times)) (now (a .seats)) (now (a .waiters))) (c .before .before .before .before .event .ensures) (c .wrapping-add-u32 .ensures)
-    ∙ sym (step-taken (poolOf (a .head) (now (a .cells)) (now (a .times)) (now (a .seats)) (now (a .waiters))) (now (a .out)) (a .e) (a .time) _ (sym (c .before .before .before .before .before .before .before .before .before .before .before .before .before .verdict .ensures) ∙ c .before .before .before .before .before .before .before .before .before .before .before .i .given .1))
+    done-world (poolOf (a .head) (now (a .numbers)) (now (a .times)) (now (a .states)) (now (a .waiters))) (c .before .before .before .before .event .ensures) (c .wrapping-add-u32 .ensures)
+    ∙ sym (step-taken (poolOf (a .head) (now (a .numbers)) (now (a .times)) (now (a .states)) (now (a .waiters))) (now (a .out)) (a .e) (a .time) _ (sym (c .before .before .before .before .before .before .before .before .before .before .before .before .before .verdict .ensures) ∙ c .before .before .before .before .before .before .before .before .before .before .before .i .given .1))
 
 pub step-spec : {M : Type 1} → statement M
 step-spec =

@@ -2,20 +2,20 @@ use lib.ListN.{length}
 use mathlib.Core.Path.{_≡_, refl}
 use Prim.Native.Nat.{_-_}
 use native.Mathlib.Omega.{arith}
-use Rattle.definition.specs.Pool.{most}
+use Rattle.definition.specs.Pool.{slotCount}
 use Rattle.pool.specs.Laws.{Taking, taking-more, taking-end}
 use borrow.Author.Needs.{needs}
 use Rattle.pool.proofs.columns.Statement.{statement}
 use Rattle.pool.proofs.columns.Tie as tie
 
 abbrev Inv-loop : tie.InvT-loop
-Inv-loop slots available cells₀ times₀ seats₀ i₀ cells times seats i = Taking slots available i cells times seats
+Inv-loop slots available cells₀ times₀ seats₀ i₀ numbers times states i = Taking slots available i numbers times states
 
 abbrev μ-loop : tie.MeasureT-loop
-μ-loop slots available cells₀ times₀ seats₀ i₀ cells times seats i = most - i
+μ-loop slots available cells₀ times₀ seats₀ i₀ numbers times states i = slotCount - i
 
 loop-holds : tie.Need-loop-holds Inv-loop μ-loop
-loop-holds c = record { some = omega arith; cellsLong = refl; timesLong = refl; seatsLong = refl; ids = refl; generations = refl; since = refl; states = refl; order = refl }
+loop-holds c = record { some = omega arith; numbersLong = refl; timesLong = refl; statesLong = refl; ids = refl; generations = refl; since = refl; codes = refl; order = refl }
 
 mul-s : tie.Need-mul-s Inv-loop μ-loop
 mul-s c = search needs
@@ -23,20 +23,20 @@ mul-s c = search needs
 array-copy-out-s : tie.Need-array-copy-out-s Inv-loop μ-loop
 array-copy-out-s c = search needs
 
-mul-cells : tie.Need-mul-cells Inv-loop μ-loop
-mul-cells c = search needs
+mul-numbers : tie.Need-mul-numbers Inv-loop μ-loop
+mul-numbers c = search needs
 
-array-write-cells : tie.Need-array-write-cells Inv-loop μ-loop
-array-write-cells c = search needs
+array-write-numbers : tie.Need-array-write-numbers Inv-loop μ-loop
+array-write-numbers c = search needs
 
-add-cells : tie.Need-add-cells Inv-loop μ-loop
-add-cells c = search needs
+add-numbers : tie.Need-add-numbers Inv-loop μ-loop
+add-numbers c = search needs
 
-mul-cells-2 : tie.Need-mul-cells-2 Inv-loop μ-loop
-mul-cells-2 c = search needs
+mul-numbers-2 : tie.Need-mul-numbers-2 Inv-loop μ-loop
+mul-numbers-2 c = search needs
 
-array-write-cells-2 : tie.Need-array-write-cells-2 Inv-loop μ-loop
-array-write-cells-2 c = search needs
+array-write-numbers-2 : tie.Need-array-write-numbers-2 Inv-loop μ-loop
+array-write-numbers-2 c = search needs
 
 mul-times : tie.Need-mul-times Inv-loop μ-loop
 mul-times c = search needs
@@ -47,17 +47,17 @@ array-write-times c = search needs
 code-of-requires : tie.Need-code-of-requires Inv-loop μ-loop
 code-of-requires c κs = search needs
 
-array-write-seats : tie.Need-array-write-seats Inv-loop μ-loop
-array-write-seats c = search needs
+array-write-states : tie.Need-array-write-states Inv-loop μ-loop
+array-write-states c = search needs
 
-array-read-seats : tie.Need-array-read-seats Inv-loop μ-loop
-array-read-seats c = search needs
+array-read-states : tie.Need-array-read-states Inv-loop μ-loop
+array-read-states c = search needs
 
-add-seats : tie.Need-add-seats Inv-loop μ-loop
-add-seats c = search needs
+add-states : tie.Need-add-states Inv-loop μ-loop
+add-states c = search needs
 
-array-write-seats-2 : tie.Need-array-write-seats-2 Inv-loop μ-loop
-array-write-seats-2 c = search needs
+array-write-states-2 : tie.Need-array-write-states-2 Inv-loop μ-loop
+array-write-states-2 c = search needs
 
 add-i : tie.Need-add-i Inv-loop μ-loop
 add-i c = search needs
@@ -68,16 +68,16 @@ loop-less c = search needs
 loop-again : tie.Need-loop-again Inv-loop μ-loop
 loop-again c =
     let a = c .before .before .before .loop in let v = c .before .before .before .before .args in
-    let ls : length (v .t1) ≡ most = search needs in
-    let la : length (v .t2) ≡ most = search needs in
-    taking-more (v .t1) (v .t2) (a .i) (a .cells) (a .times) (a .seats) _ _ _ _ ls la (omega arith) (a .inv) refl (c .code-of .ensures) refl
+    let ls : length (v .t1) ≡ slotCount = search needs in
+    let la : length (v .t2) ≡ slotCount = search needs in
+    taking-more (v .t1) (v .t2) (a .i) (a .numbers) (a .times) (a .states) _ _ _ _ ls la (omega arith) (a .inv) refl (c .code-of .ensures) refl
 
 returns : tie.Need-returns Inv-loop μ-loop
 returns c =
     let a = c .before .loop in let v = c .before .before .args in
-    let ls : length (v .t1) ≡ most = search needs in
-    let la : length (v .t2) ≡ most = search needs in
-    taking-end (v .t1) (v .t2) (a .i) (a .cells) (a .times) (a .seats) ls la (omega (arith, a .inv .some)) (a .inv)
+    let ls : length (v .t1) ≡ slotCount = search needs in
+    let la : length (v .t2) ≡ slotCount = search needs in
+    taking-end (v .t1) (v .t2) (a .i) (a .numbers) (a .times) (a .states) ls la (omega (arith, a .inv .some)) (a .inv)
 
 pub columns-spec : {M : Type 1} → statement M
 columns-spec =
@@ -88,18 +88,18 @@ columns-spec =
     loop-holds
     mul-s
     array-copy-out-s
-    mul-cells
-    array-write-cells
-    add-cells
-    mul-cells-2
-    array-write-cells-2
+    mul-numbers
+    array-write-numbers
+    add-numbers
+    mul-numbers-2
+    array-write-numbers-2
     mul-times
     array-write-times
     code-of-requires
-    array-write-seats
-    array-read-seats
-    add-seats
-    array-write-seats-2
+    array-write-states
+    array-read-states
+    add-states
+    array-write-states-2
     add-i
     loop-less
     loop-again

@@ -2,17 +2,17 @@ use lib.ListN.{length}
 use mathlib.Core.Path.{_≡_, refl}
 use Prim.Native.Nat.{_-_, _*_}
 use native.Mathlib.Omega.{arith}
-use Rattle.definition.specs.Pool.{most}
+use Rattle.definition.specs.Pool.{slotCount}
 use Rattle.pool.specs.Laws.{Putting, putting-more, putting-end}
 use borrow.Author.Needs.{needs}
 use Rattle.pool.proofs.rows.Statement.{statement}
 use Rattle.pool.proofs.rows.Tie as tie
 
 abbrev Inv-loop : tie.InvT-loop
-Inv-loop cells times seats slots₀ available₀ i₀ slots available i = Putting cells times seats i slots available
+Inv-loop numbers times states slots₀ available₀ i₀ slots available i = Putting numbers times states i slots available
 
 abbrev μ-loop : tie.MeasureT-loop
-μ-loop cells times seats slots₀ available₀ i₀ slots available i = most - i
+μ-loop numbers times states slots₀ available₀ i₀ slots available i = slotCount - i
 
 slot-of-requires : tie.Need-slot-of-requires Inv-loop μ-loop
 slot-of-requires c κs = search needs
@@ -71,17 +71,17 @@ loop-less c = search needs
 loop-again : tie.Need-loop-again Inv-loop μ-loop
 loop-again c =
     let a = c .before .before .loop in let v = c .before .before .before .before .args in
-    let lc : length (v .t1) ≡ 2 * most = search needs in
-    let lt : length (v .t2) ≡ most = search needs in
-    let ls : length (v .t3) ≡ 2 * most = search needs in
+    let lc : length (v .t1) ≡ 2 * slotCount = search needs in
+    let lt : length (v .t2) ≡ slotCount = search needs in
+    let ls : length (v .t3) ≡ 2 * slotCount = search needs in
     putting-more (v .t1) (v .t2) (v .t3) (a .i) (a .slots) (a .available) _ lc lt ls (omega arith) (a .inv) (c .slot-of2 .ensures)
 
 returns : tie.Need-returns Inv-loop μ-loop
 returns c =
     let a = c .before .loop in let v = c .before .before .before .args in
-    let lc : length (v .t1) ≡ 2 * most = search needs in
-    let lt : length (v .t2) ≡ most = search needs in
-    let ls : length (v .t3) ≡ 2 * most = search needs in
+    let lc : length (v .t1) ≡ 2 * slotCount = search needs in
+    let lt : length (v .t2) ≡ slotCount = search needs in
+    let ls : length (v .t3) ≡ 2 * slotCount = search needs in
     putting-end (v .t1) (v .t2) (v .t3) (a .i) (a .slots) (a .available) lc lt ls (omega (arith, a .inv .some)) (a .inv)
 
 pub rows-spec : {M : Type 1} → statement M

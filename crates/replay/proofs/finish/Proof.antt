@@ -49,21 +49,21 @@ returns : tie.Need-returns
 returns c =
     let a = c .before .before .before .before .before .before .before .before .before .before .before .before .args in
     let r = a .run in
-    subst (λ (t : Taken). Lined (F.finish onSlots (playOf (r .pace) (poolOf (a .head) (now (a .cells)) (now (a .times)) (now (a .seats)) (now (a .waiters))) (now (a .scratch))) (take (r .count) (r .held))) (now (a .o)) (c .before .before .before .print-refusal .last .1 .1 .0) (playOf (t .pace) (poolOf (t .head) (now (a .cells)) (now (a .times)) (now (a .seats)) (now (a .waiters))) (now (a .scratch))) (t .written))
+    subst (λ (t : Taken). Lined (F.finish onSlots (playOf (r .pace) (poolOf (a .head) (now (a .numbers)) (now (a .times)) (now (a .states)) (now (a .waiters))) (now (a .scratch))) (take (r .count) (r .held))) (now (a .o)) (c .before .before .before .print-refusal .last .1 .1 .0) (playOf (t .pace) (poolOf (t .head) (now (a .numbers)) (now (a .times)) (now (a .states)) (now (a .waiters))) (now (a .scratch))) (t .written))
     (sym (c .ended .ensures))
-    (end-first (r .pace) (poolOf (a .head) (now (a .cells)) (now (a .times)) (now (a .seats)) (now (a .waiters))) (now (a .scratch)) (now (a .o)) (take (r .count) (r .held)) _ (ap (λ (n : ℕ). take n (r .held)) (c .before .before .before .before .before .before .before .if1 .taken)) (c .before .before .before .before .before .enum-told .given .1) (c .before .before .before .print-refusal .ensures))
+    (end-first (r .pace) (poolOf (a .head) (now (a .numbers)) (now (a .times)) (now (a .states)) (now (a .waiters))) (now (a .scratch)) (now (a .o)) (take (r .count) (r .held)) _ (ap (λ (n : ℕ). take n (r .held)) (c .before .before .before .before .before .before .before .if1 .taken)) (c .before .before .before .before .before .enum-told .given .1) (c .before .before .before .print-refusal .ensures))
 
 returns-2 : tie.Need-returns-2
 returns-2 c =
     let a = c .before .before .before .before .before .before .before .args in
     let r = a .run in
-    end-going (r .pace) (poolOf (a .head) (now (a .cells)) (now (a .times)) (now (a .seats)) (now (a .waiters))) (now (a .scratch)) (now (a .o)) (take (r .count) (r .held)) (ap (λ (n : ℕ). take n (r .held)) (c .before .before .if1 .taken)) (c .enum-told2 .given .1) (c .before .before .before .before .before .before .before .pre .0 .able)
+    end-going (r .pace) (poolOf (a .head) (now (a .numbers)) (now (a .times)) (now (a .states)) (now (a .waiters))) (now (a .scratch)) (now (a .o)) (take (r .count) (r .held)) (ap (λ (n : ℕ). take n (r .held)) (c .before .before .if1 .taken)) (c .enum-told2 .given .1) (c .before .before .before .before .before .before .before .pre .0 .able)
 
 returns-3 : tie.Need-returns-3
 returns-3 c =
     let a = c .before .before .before .before .before .before .before .args in
     let r = a .run in
-    end-ended (r .pace) (poolOf (a .head) (now (a .cells)) (now (a .times)) (now (a .seats)) (now (a .waiters))) (now (a .scratch)) (now (a .o)) (take (r .count) (r .held)) (ap (λ (n : ℕ). take n (r .held)) (c .before .before .if1 .taken)) (c .enum-told3 .given .1) (c .before .before .before .before .before .before .before .pre .0 .able)
+    end-ended (r .pace) (poolOf (a .head) (now (a .numbers)) (now (a .times)) (now (a .states)) (now (a .waiters))) (now (a .scratch)) (now (a .o)) (take (r .count) (r .held)) (ap (λ (n : ℕ). take n (r .held)) (c .before .before .if1 .taken)) (c .enum-told3 .given .1) (c .before .before .before .before .before .before .before .pre .0 .able)
 
 same-length-2 : tie.Need-same-length-2
 same-length-2 c = search needs
@@ -75,7 +75,7 @@ returns-4 : tie.Need-returns-4
 returns-4 c =
     let a = c .before .before .before .before .before .before .before .before .before .before .before .before .before .before .before .before .before .args in
     let r = a .run in
-    end-line (playOf (r .pace) (poolOf (a .head) (now (a .cells)) (now (a .times)) (now (a .seats)) (now (a .waiters))) (now (a .scratch))) (take (r .count) (r .held)) (now (a .o)) _ _ _ (simp length-take (omega (arith, c .before .before .before .before .before .before .before .before .before .before .before .before .before .before .before .before .before .pre .0 .holds .few, c .before .before .before .before .before .before .before .before .before .before .before .before .before .before .before .before .before .pre .0 .holds .long, c .before .before .before .before .before .before .before .before .before .before .before .before .if1 .left))) (c .before .before .before .before .take-line .ensures)
+    end-line (playOf (r .pace) (poolOf (a .head) (now (a .numbers)) (now (a .times)) (now (a .states)) (now (a .waiters))) (now (a .scratch))) (take (r .count) (r .held)) (now (a .o)) _ _ _ (simp length-take (omega (arith, c .before .before .before .before .before .before .before .before .before .before .before .before .before .before .before .before .before .pre .0 .holds .few, c .before .before .before .before .before .before .before .before .before .before .before .before .before .before .before .before .before .pre .0 .holds .long, c .before .before .before .before .before .before .before .before .before .before .before .before .if1 .left))) (c .before .before .before .before .take-line .ensures)
 
 pub finish-spec : {M : Type 1} → statement M
 finish-spec =

@@ -20,12 +20,12 @@ use Rattle.replay.proofs.take_line.Reads as take-line-reads
 use Rattle.replay.proofs.take_piece.Reads as take-piece-reads
 
 abbrev Inv-loop : tie.InvT-loop
-Inv-loop cells₀ times₀ seats₀ waiters₀ text scratch₀ o₀ pace₀ h₀ held₀ count₀ at₀ w₀ cells times seats waiters scratch o pace h held count at w =
-    (at ≤ length text) × (length scratch ≡ length scratch₀) × (length o ≡ length o₀) × Holds held count × Able (pace .phase) (poolOf h cells times seats waiters)
-    × Doing text o₀ (heldOf (playOf pace₀ (poolOf h₀ cells₀ times₀ seats₀ waiters₀) scratch₀) held₀ count₀) (heldOf (playOf pace (poolOf h cells times seats waiters) scratch) held count) at w o
+Inv-loop cells₀ times₀ seats₀ waiters₀ text scratch₀ o₀ pace₀ h₀ held₀ count₀ at₀ w₀ numbers times states waiters scratch o pace h held count at w =
+    (at ≤ length text) × (length scratch ≡ length scratch₀) × (length o ≡ length o₀) × Holds held count × Able (pace .phase) (poolOf h numbers times states waiters)
+    × Doing text o₀ (heldOf (playOf pace₀ (poolOf h₀ cells₀ times₀ seats₀ waiters₀) scratch₀) held₀ count₀) (heldOf (playOf pace (poolOf h numbers times states waiters) scratch) held count) at w o
 
 abbrev μ-loop : tie.MeasureT-loop
-μ-loop cells₀ times₀ seats₀ waiters₀ text scratch₀ o₀ pace₀ h₀ held₀ count₀ at₀ w₀ cells times seats waiters scratch o pace h held count at w = length text - at
+μ-loop cells₀ times₀ seats₀ waiters₀ text scratch₀ o₀ pace₀ h₀ held₀ count₀ at₀ w₀ numbers times states waiters scratch o pace h held count at w = length text - at
 
 loop-holds : tie.Need-loop-holds Inv-loop μ-loop
 loop-holds c =
@@ -168,7 +168,7 @@ loop-again c =
       search needs,
       v .3,
       c .before .before .before .before .before .before .before .take-line .ensures .able,
-      doing-step (g .text .now) (now (g .o)) (heldOf (playOf (g .run .pace) (poolOf (g .head) (now (g .cells)) (now (g .times)) (now (g .seats)) (now (g .waiters))) (now (g .scratch))) (g .run .held) (g .run .count)) (heldOf (playOf (a .pace) (poolOf (a .h) (a .cells) (a .times) (a .seats) (a .waiters)) (a .scratch)) (a .held) (a .count)) (a .at) (a .w) e (a .o) _ _ _ _ _ (v .5) n (omega (arith, v .2)) (l .0) (piece-quick (playOf (a .pace) (poolOf (a .h) (a .cells) (a .times) (a .seats) (a .waiters)) (a .scratch)) (a .held) (a .count) (take (e - a .at) (drop (a .at) (g .text .now))) (take (length (a .o) - a .w) (drop (a .w) (a .o))) _ _ _ (v .3) (c .before .before .before .before .before .before .before .before .before .before .before .before .before .before .before .before .before .if2 .taken) (piece-ends (g .text .now) (a .at) e (omega (arith, l .0)) (l .1) ∙ c .before .before .before .before .before .before .before .before .before .before .before .before .before .before .before .if3 .taken) (c .before .before .before .before .before .before .before .take-line .ensures)),
+      doing-step (g .text .now) (now (g .o)) (heldOf (playOf (g .run .pace) (poolOf (g .head) (now (g .numbers)) (now (g .times)) (now (g .states)) (now (g .waiters))) (now (g .scratch))) (g .run .held) (g .run .count)) (heldOf (playOf (a .pace) (poolOf (a .h) (a .numbers) (a .times) (a .states) (a .waiters)) (a .scratch)) (a .held) (a .count)) (a .at) (a .w) e (a .o) _ _ _ _ _ (v .5) n (omega (arith, v .2)) (l .0) (piece-quick (playOf (a .pace) (poolOf (a .h) (a .numbers) (a .times) (a .states) (a .waiters)) (a .scratch)) (a .held) (a .count) (take (e - a .at) (drop (a .at) (g .text .now))) (take (length (a .o) - a .w) (drop (a .w) (a .o))) _ _ _ (v .3) (c .before .before .before .before .before .before .before .before .before .before .before .before .before .before .before .before .before .if2 .taken) (piece-ends (g .text .now) (a .at) e (omega (arith, l .0)) (l .1) ∙ c .before .before .before .before .before .before .before .before .before .before .before .before .before .before .before .if3 .taken) (c .before .before .before .before .before .before .before .take-line .ensures)),
     )
 
 loop-less-2 : tie.Need-loop-less-2 Inv-loop μ-loop
@@ -198,7 +198,7 @@ loop-again-2 c =
       search needs,
       t .holds,
       t .able,
-      doing-step (g .text .now) (now (g .o)) (heldOf (playOf (g .run .pace) (poolOf (g .head) (now (g .cells)) (now (g .times)) (now (g .seats)) (now (g .waiters))) (now (g .scratch))) (g .run .held) (g .run .count)) (heldOf (playOf (a .pace) (poolOf (a .h) (a .cells) (a .times) (a .seats) (a .waiters)) (a .scratch)) (a .held) (a .count)) (a .at) (a .w) e (a .o) _ _ _ _ _ (v .5) n (omega (arith, v .2)) (l .0) t,
+      doing-step (g .text .now) (now (g .o)) (heldOf (playOf (g .run .pace) (poolOf (g .head) (now (g .numbers)) (now (g .times)) (now (g .states)) (now (g .waiters))) (now (g .scratch))) (g .run .held) (g .run .count)) (heldOf (playOf (a .pace) (poolOf (a .h) (a .numbers) (a .times) (a .states) (a .waiters)) (a .scratch)) (a .held) (a .count)) (a .at) (a .w) e (a .o) _ _ _ _ _ (v .5) n (omega (arith, v .2)) (l .0) t,
     )
 
 same-length : tie.Need-same-length Inv-loop μ-loop
@@ -213,7 +213,7 @@ returns c =
     let g = c .before .before .before .before .before .before .before .before .args in
     let v = a .inv in
     let h : length (a .o) - a .w < lineRoom = leb-false 16896 (length (a .o) - a .w) (c .if1 .left) in
-    doing-end (g .text .now) (now (g .o)) (heldOf (playOf (g .run .pace) (poolOf (g .head) (now (g .cells)) (now (g .times)) (now (g .seats)) (now (g .waiters))) (now (g .scratch))) (g .run .held) (g .run .count)) (record { pace = a .pace; held = a .held; count = a .count }) (poolOf (a .h) (a .cells) (a .times) (a .seats) (a .waiters)) (a .scratch) (a .at) (a .w) (a .o) (v .5) (v .0) (record { holds = v .3; able = v .4 }) (go-short onSlots _ _ _ (omega (arith, v .2)))
+    doing-end (g .text .now) (now (g .o)) (heldOf (playOf (g .run .pace) (poolOf (g .head) (now (g .numbers)) (now (g .times)) (now (g .states)) (now (g .waiters))) (now (g .scratch))) (g .run .held) (g .run .count)) (record { pace = a .pace; held = a .held; count = a .count }) (poolOf (a .h) (a .numbers) (a .times) (a .states) (a .waiters)) (a .scratch) (a .at) (a .w) (a .o) (v .5) (v .0) (record { holds = v .3; able = v .4 }) (go-short onSlots _ _ _ (omega (arith, v .2)))
 
 same-length-3 : tie.Need-same-length-3 Inv-loop μ-loop
 same-length-3 c = c .before .loop .inv .1
@@ -226,7 +226,7 @@ returns-2 c =
     let a = c .before .loop in
     let g = c .before .before .before .before .before .before .before .args in
     let v = a .inv in
-    doing-end (g .text .now) (now (g .o)) (heldOf (playOf (g .run .pace) (poolOf (g .head) (now (g .cells)) (now (g .times)) (now (g .seats)) (now (g .waiters))) (now (g .scratch))) (g .run .held) (g .run .count)) (record { pace = a .pace; held = a .held; count = a .count }) (poolOf (a .h) (a .cells) (a .times) (a .seats) (a .waiters)) (a .scratch) (a .at) (a .w) (a .o) (v .5) (v .0) (record { holds = v .3; able = v .4 }) (go-out onSlots _ _ (g .text .now) (a .at) (c .loop-test .left))
+    doing-end (g .text .now) (now (g .o)) (heldOf (playOf (g .run .pace) (poolOf (g .head) (now (g .numbers)) (now (g .times)) (now (g .states)) (now (g .waiters))) (now (g .scratch))) (g .run .held) (g .run .count)) (record { pace = a .pace; held = a .held; count = a .count }) (poolOf (a .h) (a .numbers) (a .times) (a .states) (a .waiters)) (a .scratch) (a .at) (a .w) (a .o) (v .5) (v .0) (record { holds = v .3; able = v .4 }) (go-out onSlots _ _ (g .text .now) (a .at) (c .loop-test .left))
 
 pub replay-some-spec : {M : Type 1} → statement M
 replay-some-spec =

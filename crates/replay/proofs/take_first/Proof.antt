@@ -55,9 +55,9 @@ returns : tie.Need-returns
 returns c =
     let a = c .before .before .before .before .before .before .before .before .before .before .before .before .before .before .args in
     let d = c .before .before .before .before .before .before .before .with-defaults .ensures in
-    subst (λ (h : Head). Opens (a .pace) (poolOf (a .head) (now (a .cells)) (now (a .times)) (now (a .seats)) (now (a .waiters))) (optionsOfLine (now (a .l))) (now (a .o)) (now (a .o)) (goingPace (a .pace)) (overBlank h) 0)
+    subst (λ (h : Head). Opens (a .pace) (poolOf (a .head) (now (a .numbers)) (now (a .times)) (now (a .states)) (now (a .waiters))) (optionsOfLine (now (a .l))) (now (a .o)) (now (a .o)) (goingPace (a .pace)) (overBlank h) 0)
     (sym (c .fresh-head .ensures ∙ ap freshHead d))
-    (opens-made (a .pace) (poolOf (a .head) (now (a .cells)) (now (a .times)) (now (a .seats)) (now (a .waiters))) (optionsOfLine (now (a .l))) (now (a .o)) (now (a .o)) (c .before .before .before .before .before .before .before .before .before .p .given .0 .0) (sym (c .before .before .before .before .before .before .before .before .before .before .before .line-options .ensures) ∙ ap optionsIn (c .before .before .before .before .before .before .before .before .before .p .given .1)) (sym (c .before .before .before .before .before .if1 .taken) ∙ c .before .before .before .before .before .before .in-range .ensures ∙ ap inRange d))
+    (opens-made (a .pace) (poolOf (a .head) (now (a .numbers)) (now (a .times)) (now (a .states)) (now (a .waiters))) (optionsOfLine (now (a .l))) (now (a .o)) (now (a .o)) (c .before .before .before .before .before .before .before .before .before .p .given .0 .0) (sym (c .before .before .before .before .before .before .before .before .before .before .before .line-options .ensures) ∙ ap optionsIn (c .before .before .before .before .before .before .before .before .before .p .given .1)) (sym (c .before .before .before .before .before .if1 .taken) ∙ c .before .before .before .before .before .before .in-range .ensures ∙ ap inRange d))
 
 same-length : tie.Need-same-length
 same-length c = search needs
@@ -66,9 +66,9 @@ returns-2 : tie.Need-returns-2
 returns-2 c =
     let a = c .before .before .before .before .before .before .before .before .before .before .before .before .before .before .args in
     let d = c .before .before .before .before .before .before .before .with-defaults .ensures in
-    subst (λ (t : Taken). Opens (a .pace) (poolOf (a .head) (now (a .cells)) (now (a .times)) (now (a .seats)) (now (a .waiters))) (optionsOfLine (now (a .l))) (now (a .o)) (c .before .before .before .print-refusal .last .1 .1 .0) (t .pace) (poolOf (t .head) (now (a .cells)) (now (a .times)) (now (a .seats)) (now (a .waiters))) (t .written))
+    subst (λ (t : Taken). Opens (a .pace) (poolOf (a .head) (now (a .numbers)) (now (a .times)) (now (a .states)) (now (a .waiters))) (optionsOfLine (now (a .l))) (now (a .o)) (c .before .before .before .print-refusal .last .1 .1 .0) (t .pace) (poolOf (t .head) (now (a .numbers)) (now (a .times)) (now (a .states)) (now (a .waiters))) (t .written))
     (sym (c .ended .ensures))
-    (opens-refused (a .pace) (poolOf (a .head) (now (a .cells)) (now (a .times)) (now (a .seats)) (now (a .waiters))) (optionsOfLine (now (a .l))) (now (a .o)) _ (c .before .before .before .before .before .before .before .before .before .p .given .0 .0) (sym (c .before .before .before .before .before .before .before .before .before .before .before .line-options .ensures) ∙ ap optionsIn (c .before .before .before .before .before .before .before .before .before .p .given .1)) (sym (c .before .before .before .before .before .if1 .left) ∙ c .before .before .before .before .before .before .in-range .ensures ∙ ap inRange d) (c .before .before .before .print-refusal .ensures))
+    (opens-refused (a .pace) (poolOf (a .head) (now (a .numbers)) (now (a .times)) (now (a .states)) (now (a .waiters))) (optionsOfLine (now (a .l))) (now (a .o)) _ (c .before .before .before .before .before .before .before .before .before .p .given .0 .0) (sym (c .before .before .before .before .before .before .before .before .before .before .before .line-options .ensures) ∙ ap optionsIn (c .before .before .before .before .before .before .before .before .before .p .given .1)) (sym (c .before .before .before .before .before .if1 .left) ∙ c .before .before .before .before .before .before .in-range .ensures ∙ ap inRange d) (c .before .before .before .print-refusal .ensures))
 
 same-length-2 : tie.Need-same-length-2
 same-length-2 c = search needs
@@ -76,9 +76,9 @@ same-length-2 c = search needs
 returns-3 : tie.Need-returns-3
 returns-3 c =
     let a = c .before .before .before .before .before .before .before .before .before .before .args in
-    subst (λ (t : Taken). Opens (a .pace) (poolOf (a .head) (now (a .cells)) (now (a .times)) (now (a .seats)) (now (a .waiters))) (optionsOfLine (now (a .l))) (now (a .o)) (c .before .before .before .print-refusal2 .last .1 .1 .0) (t .pace) (poolOf (t .head) (now (a .cells)) (now (a .times)) (now (a .seats)) (now (a .waiters))) (t .written))
+    subst (λ (t : Taken). Opens (a .pace) (poolOf (a .head) (now (a .numbers)) (now (a .times)) (now (a .states)) (now (a .waiters))) (optionsOfLine (now (a .l))) (now (a .o)) (c .before .before .before .print-refusal2 .last .1 .1 .0) (t .pace) (poolOf (t .head) (now (a .numbers)) (now (a .times)) (now (a .states)) (now (a .waiters))) (t .written))
     (sym (c .ended2 .ensures))
-    (opens-malformed (a .pace) (poolOf (a .head) (now (a .cells)) (now (a .times)) (now (a .seats)) (now (a .waiters))) (optionsOfLine (now (a .l))) (now (a .o)) _ (sym (c .before .before .before .before .before .before .before .line-options .ensures) ∙ ap optionsIn (c .before .before .before .before .before .enum-told .given .1)) (c .before .before .before .print-refusal2 .ensures))
+    (opens-malformed (a .pace) (poolOf (a .head) (now (a .numbers)) (now (a .times)) (now (a .states)) (now (a .waiters))) (optionsOfLine (now (a .l))) (now (a .o)) _ (sym (c .before .before .before .before .before .before .before .line-options .ensures) ∙ ap optionsIn (c .before .before .before .before .before .enum-told .given .1)) (c .before .before .before .print-refusal2 .ensures))
 
 pub take-first-spec : {M : Type 1} → statement M
 take-first-spec =

@@ -50,7 +50,7 @@ cast-k c = search needs
 print-records-requires : tie.Need-print-records-requires
 print-records-requires c κs =
     let a = c .before .before .before .before .before .before .before .before .before .before .before .before .before .before .before .before .before .before .args in
-    let few : c .before .before .before .answer2 .given .0 .0 ≤ 512 = few-of (poolOf (a .head) (now (a .cells)) (now (a .times)) (now (a .seats)) (now (a .waiters))) _ (now (a .scratch)) _ _ _ (c .before .before .before .before .before .before .before .before .call .ensures) (c .before .before .before .before .before .before .before .before .before .before .before .before .before .before .before .before .before .before .pre .1) _ (c .before .before .before .answer2 .given .1) in
+    let few : c .before .before .before .answer2 .given .0 .0 ≤ 512 = few-of (poolOf (a .head) (now (a .numbers)) (now (a .times)) (now (a .states)) (now (a .waiters))) _ (now (a .scratch)) _ _ _ (c .before .before .before .before .before .before .before .before .call .ensures) (c .before .before .before .before .before .before .before .before .before .before .before .before .before .before .before .before .before .before .pre .1) _ (c .before .before .before .answer2 .given .1) in
     (omega arith, omega arith)
 
 mul-counted : tie.Need-mul-counted
@@ -69,10 +69,10 @@ returns : tie.Need-returns
 returns c =
     let a = c .before .before .before .before .before .before .before .before .before .before .before .before .before .before .before .before .before .before .before .before .before .before .args in
     let k = c .before .before .before .before .before .before .before .before .before .before .before .before .call in
-    let e = k .ensures ∙ ap (call (poolOf (a .head) (now (a .cells)) (now (a .times)) (now (a .seats)) (now (a .waiters))) (now (a .scratch))) (c .before .before .before .before .before .before .before .before .before .before .before .before .before .before .before .before .before .before .line-frame .ensures) in
-    subst (λ (t : Taken). Lined (answered (playOf (a .pace) (poolOf (a .head) (now (a .cells)) (now (a .times)) (now (a .seats)) (now (a .waiters))) (now (a .scratch))) (call (poolOf (a .head) (now (a .cells)) (now (a .times)) (now (a .seats)) (now (a .waiters))) (now (a .scratch)) (frameOfLine (now (a .l))))) (now (a .o)) (c .before .before .before .print-refusal .last .1 .1 .0) (playOf (t .pace) (poolOf (t .head) (k .last .1 .0) (k .last .1 .1 .0) (k .last .1 .1 .1 .0) (k .last .1 .1 .1 .1 .0)) (k .last .1 .1 .1 .1 .1 .0)) (t .written))
+    let e = k .ensures ∙ ap (call (poolOf (a .head) (now (a .numbers)) (now (a .times)) (now (a .states)) (now (a .waiters))) (now (a .scratch))) (c .before .before .before .before .before .before .before .before .before .before .before .before .before .before .before .before .before .before .line-frame .ensures) in
+    subst (λ (t : Taken). Lined (answered (playOf (a .pace) (poolOf (a .head) (now (a .numbers)) (now (a .times)) (now (a .states)) (now (a .waiters))) (now (a .scratch))) (call (poolOf (a .head) (now (a .numbers)) (now (a .times)) (now (a .states)) (now (a .waiters))) (now (a .scratch)) (frameOfLine (now (a .l))))) (now (a .o)) (c .before .before .before .print-refusal .last .1 .1 .0) (playOf (t .pace) (poolOf (t .head) (k .last .1 .0) (k .last .1 .1 .0) (k .last .1 .1 .1 .0) (k .last .1 .1 .1 .1 .0)) (k .last .1 .1 .1 .1 .1 .0)) (t .written))
     (sym (c .counted .ensures))
-    (frame-refused (poolOf (a .head) (now (a .cells)) (now (a .times)) (now (a .seats)) (now (a .waiters))) _ (now (a .scratch)) _ (frameOfLine (now (a .l))) _ e (c .before .before .before .before .before .before .before .before .before .before .before .before .before .before .before .before .before .before .before .before .before .before .pre .1) (a .pace) (now (a .o)) _ (c .before .before .before .before .before .before .before .answer .given .0 .0) (c .before .before .before .before .before .before .before .answer .given .1)
+    (frame-refused (poolOf (a .head) (now (a .numbers)) (now (a .times)) (now (a .states)) (now (a .waiters))) _ (now (a .scratch)) _ (frameOfLine (now (a .l))) _ e (c .before .before .before .before .before .before .before .before .before .before .before .before .before .before .before .before .before .before .before .before .before .before .pre .1) (a .pace) (now (a .o)) _ (c .before .before .before .before .before .before .before .answer .given .0 .0) (c .before .before .before .before .before .before .before .answer .given .1)
     (c .before .before .before .print-refusal .ensures ∙ ap (λ (n : ℕ). refusedBytes (c .before .before .before .before .before .before .before .answer .given .0 .0) n ++ drop 33 (now (a .o))) (c .before .before .before .before .before .line-number .ensures)))
 
 same-length-3 : tie.Need-same-length-3
@@ -85,10 +85,10 @@ returns-2 : tie.Need-returns-2
 returns-2 c =
     let a = c .before .before .before .before .before .before .before .before .before .before .before .before .before .before .before .before .before .before .before .before .before .before .args in
     let k = c .before .before .before .before .before .before .before .before .before .before .before .before .call in
-    let e = k .ensures ∙ ap (call (poolOf (a .head) (now (a .cells)) (now (a .times)) (now (a .seats)) (now (a .waiters))) (now (a .scratch))) (c .before .before .before .before .before .before .before .before .before .before .before .before .before .before .before .before .before .before .line-frame .ensures) in
-    subst (λ (t : Taken). Lined (answered (playOf (a .pace) (poolOf (a .head) (now (a .cells)) (now (a .times)) (now (a .seats)) (now (a .waiters))) (now (a .scratch))) (call (poolOf (a .head) (now (a .cells)) (now (a .times)) (now (a .seats)) (now (a .waiters))) (now (a .scratch)) (frameOfLine (now (a .l))))) (now (a .o)) (c .before .before .before .print-records .last .1 .1 .0) (playOf (t .pace) (poolOf (t .head) (k .last .1 .0) (k .last .1 .1 .0) (k .last .1 .1 .1 .0) (k .last .1 .1 .1 .1 .0)) (k .last .1 .1 .1 .1 .1 .0)) (t .written))
+    let e = k .ensures ∙ ap (call (poolOf (a .head) (now (a .numbers)) (now (a .times)) (now (a .states)) (now (a .waiters))) (now (a .scratch))) (c .before .before .before .before .before .before .before .before .before .before .before .before .before .before .before .before .before .before .line-frame .ensures) in
+    subst (λ (t : Taken). Lined (answered (playOf (a .pace) (poolOf (a .head) (now (a .numbers)) (now (a .times)) (now (a .states)) (now (a .waiters))) (now (a .scratch))) (call (poolOf (a .head) (now (a .numbers)) (now (a .times)) (now (a .states)) (now (a .waiters))) (now (a .scratch)) (frameOfLine (now (a .l))))) (now (a .o)) (c .before .before .before .print-records .last .1 .1 .0) (playOf (t .pace) (poolOf (t .head) (k .last .1 .0) (k .last .1 .1 .0) (k .last .1 .1 .1 .0) (k .last .1 .1 .1 .1 .0)) (k .last .1 .1 .1 .1 .1 .0)) (t .written))
     (sym (c .counted2 .ensures))
-    (frame-accepted (poolOf (a .head) (now (a .cells)) (now (a .times)) (now (a .seats)) (now (a .waiters))) _ (now (a .scratch)) _ (frameOfLine (now (a .l))) _ e (c .before .before .before .before .before .before .before .before .before .before .before .before .before .before .before .before .before .before .before .before .before .before .pre .1) (a .pace) (now (a .o)) _ (c .before .before .before .before .before .before .before .answer2 .given .0 .0) (c .before .before .before .before .before .before .before .answer2 .given .1) (omega (arith, c .before .before .before .before .before .before .before .before .before .before .before .before .before .before .before .before .before .before .before .before .before .before .pre .2)) (c .before .before .before .print-records .ensures))
+    (frame-accepted (poolOf (a .head) (now (a .numbers)) (now (a .times)) (now (a .states)) (now (a .waiters))) _ (now (a .scratch)) _ (frameOfLine (now (a .l))) _ e (c .before .before .before .before .before .before .before .before .before .before .before .before .before .before .before .before .before .before .before .before .before .before .pre .1) (a .pace) (now (a .o)) _ (c .before .before .before .before .before .before .before .answer2 .given .0 .0) (c .before .before .before .before .before .before .before .answer2 .given .1) (omega (arith, c .before .before .before .before .before .before .before .before .before .before .before .before .before .before .before .before .before .before .before .before .before .before .pre .2)) (c .before .before .before .print-records .ensures))
 
 pub take-frame-spec : {M : Type 1} → statement M
 take-frame-spec =

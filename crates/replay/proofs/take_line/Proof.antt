@@ -25,7 +25,7 @@ enum-told-2 c = search needs
 take-frame-requires : tie.Need-take-frame-requires
 take-frame-requires c κs =
     let a = c .before .before .before .before .before .before .before .before .before .before .before .before .before .args in
-    (c .before .before .before .before .before .before .if1 .taken, subst (λ (g : Phase). Able g (poolOf (a .head) (now (a .cells)) (now (a .times)) (now (a .seats)) (now (a .waiters)))) (c .before .before .before .before .before .before .before .before .enum-told2 .given .1) (c .before .before .before .before .before .before .before .before .before .before .before .before .before .pre .0), c .before .before .before .before .before .before .before .before .before .before .before .before .before .pre .1, c .before .before .before .before .before .before .before .before .before .before .before .before .before .pre .2)
+    (c .before .before .before .before .before .before .if1 .taken, subst (λ (g : Phase). Able g (poolOf (a .head) (now (a .numbers)) (now (a .times)) (now (a .states)) (now (a .waiters)))) (c .before .before .before .before .before .before .before .before .enum-told2 .given .1) (c .before .before .before .before .before .before .before .before .before .before .before .before .before .pre .0), c .before .before .before .before .before .before .before .before .before .before .before .before .before .pre .1, c .before .before .before .before .before .before .before .before .before .before .before .before .before .pre .2)
 
 enum-told-3 : tie.Need-enum-told-3
 enum-told-3 c = search needs
@@ -36,7 +36,7 @@ same-length c = search needs
 returns : tie.Need-returns
 returns c =
     let a = c .before .before .before .before .before .before .before .before .before .before .before .before .before .args in
-    line-first (a .pace) (poolOf (a .head) (now (a .cells)) (now (a .times)) (now (a .seats)) (now (a .waiters))) (now (a .scratch)) (now (a .l)) (now (a .o)) _ _ _ _ _ (c .before .before .before .before .before .before .before .before .enum-told .given .1) (c .before .before .take-first .ensures) refl
+    line-first (a .pace) (poolOf (a .head) (now (a .numbers)) (now (a .times)) (now (a .states)) (now (a .waiters))) (now (a .scratch)) (now (a .l)) (now (a .o)) _ _ _ _ _ (c .before .before .before .before .before .before .before .before .enum-told .given .1) (c .before .before .take-first .ensures) refl
 
 same-length-2 : tie.Need-same-length-2
 same-length-2 c = search needs
@@ -47,17 +47,17 @@ same-length-3 c = search needs
 returns-2 : tie.Need-returns-2
 returns-2 c =
     let a = c .before .before .before .before .before .before .before .before .before .before .before .before .before .before .before .before .before .before .args in
-    line-going (a .pace) (poolOf (a .head) (now (a .cells)) (now (a .times)) (now (a .seats)) (now (a .waiters))) (now (a .scratch)) (now (a .l)) (now (a .o)) _ _ _ _ _ (c .before .before .before .before .before .before .before .before .before .before .before .before .before .enum-told2 .given .1) (c .before .before .before .before .before .before .before .before .before .before .before .if1 .taken) (c .before .before .before .before .take-frame .ensures)
+    line-going (a .pace) (poolOf (a .head) (now (a .numbers)) (now (a .times)) (now (a .states)) (now (a .waiters))) (now (a .scratch)) (now (a .l)) (now (a .o)) _ _ _ _ _ (c .before .before .before .before .before .before .before .before .before .before .before .before .before .enum-told2 .given .1) (c .before .before .before .before .before .before .before .before .before .before .before .if1 .taken) (c .before .before .before .before .take-frame .ensures)
 
 returns-3 : tie.Need-returns-3
 returns-3 c =
     let a = c .before .before .before .before .before .before .before .args in
-    line-spent (a .pace) (poolOf (a .head) (now (a .cells)) (now (a .times)) (now (a .seats)) (now (a .waiters))) (now (a .scratch)) (now (a .l)) (now (a .o)) (c .before .before .enum-told2 .given .1) (c .if1 .left) (c .before .before .before .before .before .before .before .pre .0)
+    line-spent (a .pace) (poolOf (a .head) (now (a .numbers)) (now (a .times)) (now (a .states)) (now (a .waiters))) (now (a .scratch)) (now (a .l)) (now (a .o)) (c .before .before .enum-told2 .given .1) (c .if1 .left) (c .before .before .before .before .before .before .before .pre .0)
 
 returns-4 : tie.Need-returns-4
 returns-4 c =
     let a = c .before .before .before .before .before .args in
-    line-ended (a .pace) (poolOf (a .head) (now (a .cells)) (now (a .times)) (now (a .seats)) (now (a .waiters))) (now (a .scratch)) (now (a .l)) (now (a .o)) (c .enum-told3 .given .1) (c .before .before .before .before .before .pre .0)
+    line-ended (a .pace) (poolOf (a .head) (now (a .numbers)) (now (a .times)) (now (a .states)) (now (a .waiters))) (now (a .scratch)) (now (a .l)) (now (a .o)) (c .enum-told3 .given .1) (c .before .before .before .before .before .pre .0)
 
 pub take-line-spec : {M : Type 1} → statement M
 take-line-spec =

@@ -47,14 +47,14 @@ returns c =
     let a = c .before .before .before .before .before .before .before .before .before .before .before .before .before .before .before .before .before .before .before .before .before .args in
     let p = now (a .p) in
     let h = c .before .before .before .before .before .before .before .before .before .before .before .before .before .before .before .before .before .hold .ensures in
-    piece-line (playOf (a .pace) (poolOf (a .head) (now (a .cells)) (now (a .times)) (now (a .seats)) (now (a .waiters))) (now (a .scratch))) (a .held) (a .count) p (now (a .o)) _ _ _ _ (ends-last p (c .before .before .before .before .before .before .before .before .before .before .before .before .before .before .before .before .before .before .before .before .before .pre .2) ∙ eq-eqb _ _ (c .before .before .before .before .before .before .before .before .before .before .before .before .before .before .if1 .taken)) (held-take (a .held) (a .count) p (c .before .before .before .before .before .before .before .before .before .before .before .before .before .before .before .before .before .before .before .before .before .pre .0) _ _ (h .0) (h .1)) (c .before .before .before .before .before .before .take-line .ensures)
+    piece-line (playOf (a .pace) (poolOf (a .head) (now (a .numbers)) (now (a .times)) (now (a .states)) (now (a .waiters))) (now (a .scratch))) (a .held) (a .count) p (now (a .o)) _ _ _ _ (ends-last p (c .before .before .before .before .before .before .before .before .before .before .before .before .before .before .before .before .before .before .before .before .before .pre .2) ∙ eq-eqb _ _ (c .before .before .before .before .before .before .before .before .before .before .before .before .before .before .if1 .taken)) (held-take (a .held) (a .count) p (c .before .before .before .before .before .before .before .before .before .before .before .before .before .before .before .before .before .before .before .before .before .pre .0) _ _ (h .0) (h .1)) (c .before .before .before .before .before .before .take-line .ensures)
 
 returns-2 : tie.Need-returns-2
 returns-2 c =
     let a = c .before .before .before .before .before .before .before .args in
     let p = now (a .p) in
     let h = c .before .before .before .hold .ensures in
-    piece-held (playOf (a .pace) (poolOf (a .head) (now (a .cells)) (now (a .times)) (now (a .seats)) (now (a .waiters))) (now (a .scratch))) (a .held) (a .count) p (now (a .o)) _ _ (ends-last p (c .before .before .before .before .before .before .before .pre .2) ∙ ne-eqb _ _ (c .if1 .left)) (held-take (a .held) (a .count) p (c .before .before .before .before .before .before .before .pre .0) _ _ (h .0) (h .1)) (holds (c .before .before .before)) (c .before .before .before .before .before .before .before .pre .1)
+    piece-held (playOf (a .pace) (poolOf (a .head) (now (a .numbers)) (now (a .times)) (now (a .states)) (now (a .waiters))) (now (a .scratch))) (a .held) (a .count) p (now (a .o)) _ _ (ends-last p (c .before .before .before .before .before .before .before .pre .2) ∙ ne-eqb _ _ (c .if1 .left)) (held-take (a .held) (a .count) p (c .before .before .before .before .before .before .before .pre .0) _ _ (h .0) (h .1)) (holds (c .before .before .before)) (c .before .before .before .before .before .before .before .pre .1)
 
 pub take-piece-spec : {M : Type 1} → statement M
 take-piece-spec =

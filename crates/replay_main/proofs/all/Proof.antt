@@ -13,10 +13,10 @@ use Rattle.replay_main.proofs.all.Lts as lts
 use Rattle.replay_main.proofs.turn.Reads as turn-reads
 
 abbrev Inv-loop : tie.InvT-loop
-Inv-loop cells₀ times₀ seats₀ waiters₀ fd name buf₀ scratch₀ out₀ r₀ h₀ turns₀ cells times seats waiters buf scratch out r h turns = (length buf ≡ length buf₀) × (length scratch ≡ length scratch₀) × (length out ≡ length out₀) × Kept r (poolOf h cells times seats waiters)
+Inv-loop cells₀ times₀ seats₀ waiters₀ fd name buf₀ scratch₀ out₀ r₀ h₀ turns₀ numbers times states waiters buf scratch out r h turns = (length buf ≡ length buf₀) × (length scratch ≡ length scratch₀) × (length out ≡ length out₀) × Kept r (poolOf h numbers times states waiters)
 
 abbrev μ-loop : tie.MeasureT-loop
-μ-loop cells₀ times₀ seats₀ waiters₀ fd name buf₀ scratch₀ out₀ r₀ h₀ turns₀ cells times seats waiters buf scratch out r h turns = turns
+μ-loop cells₀ times₀ seats₀ waiters₀ fd name buf₀ scratch₀ out₀ r₀ h₀ turns₀ numbers times states waiters buf scratch out r h turns = turns
 
 loop-holds : tie.Need-loop-holds Inv-loop μ-loop
 loop-holds c = (refl, refl, refl, c .before .before .before .before .pre .0)

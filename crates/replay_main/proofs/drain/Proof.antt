@@ -16,10 +16,10 @@ use Rattle.replay.proofs.replay_some.Reads as replay-some-reads
 use Rattle.replay_main.proofs.put.Reads as put-reads
 
 abbrev Inv-loop : tie.InvT-loop
-Inv-loop cells₀ times₀ seats₀ waiters₀ text scratch₀ out₀ r₀ h₀ at₀ cells times seats waiters scratch out r h at = (at ≤ length text) × (length scratch ≡ length scratch₀) × (length out ≡ length out₀) × Kept r (poolOf h cells times seats waiters)
+Inv-loop cells₀ times₀ seats₀ waiters₀ text scratch₀ out₀ r₀ h₀ at₀ numbers times states waiters scratch out r h at = (at ≤ length text) × (length scratch ≡ length scratch₀) × (length out ≡ length out₀) × Kept r (poolOf h numbers times states waiters)
 
 abbrev μ-loop : tie.MeasureT-loop
-μ-loop cells₀ times₀ seats₀ waiters₀ text scratch₀ out₀ r₀ h₀ at₀ cells times seats waiters scratch out r h at = length text - at
+μ-loop cells₀ times₀ seats₀ waiters₀ text scratch₀ out₀ r₀ h₀ at₀ numbers times states waiters scratch out r h at = length text - at
 
 loop-holds : tie.Need-loop-holds Inv-loop μ-loop
 loop-holds c = (omega arith, refl, refl, c .before .before .before .pre .0)

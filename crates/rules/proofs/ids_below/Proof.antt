@@ -2,7 +2,7 @@ use mathlib.Core.Path.{_≡_}
 use Prim.Native.Nat.{_≤_, _-_}
 use native.Mathlib.Omega.{arith}
 use lib.ListN.{getD}
-use Rattle.definition.specs.Pool.{most}
+use Rattle.definition.specs.Pool.{slotCount}
 use Rattle.definition.specs.Words.{_<?_}
 use Rattle.rules.specs.Tests.{every, idsBelow}
 use Rattle.rules.proofs.Laws.{every-more, every-none}
@@ -11,10 +11,10 @@ use Rattle.rules.proofs.ids_below.Statement.{statement}
 use Rattle.rules.proofs.ids_below.Tie as tie
 
 abbrev Inv-loop : tie.InvT-loop
-Inv-loop cells next ok₀ i₀ ok i = (i ≤ most) × (ok ≡ every i (λ j. getD cells j 0 <? next))
+Inv-loop numbers next ok₀ i₀ ok i = (i ≤ slotCount) × (ok ≡ every i (λ j. getD numbers j 0 <? next))
 
 abbrev μ-loop : tie.MeasureT-loop
-μ-loop cells next ok₀ i₀ ok i = most - i
+μ-loop numbers next ok₀ i₀ ok i = slotCount - i
 
 loop-holds : tie.Need-loop-holds Inv-loop μ-loop
 loop-holds c = (search needs, every-none _)
@@ -42,7 +42,7 @@ loop-again c = (search needs, every-more _ _ _ _ _ (c .before .before .before .b
 
 returns : tie.Need-returns Inv-loop μ-loop
 unfolding idsBelow
-returns c = let e : c .before .loop .i ≡ most = omega arith in rw e at (c .before .loop .inv .1)
+returns c = let e : c .before .loop .i ≡ slotCount = omega arith in rw e at (c .before .loop .inv .1)
 
 pub ids-below-spec : {M : Type 1} → statement M
 ids-below-spec =

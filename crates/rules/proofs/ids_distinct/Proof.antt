@@ -4,7 +4,7 @@ use Prim.Native.Nat.{_≤_, _-_, _%_}
 use native.Mathlib.Omega.{arith}
 use lib.ListN.{length, getD, length-set}
 use denote.Ref.{now}
-use Rattle.definition.specs.Pool.{most}
+use Rattle.definition.specs.Pool.{slotCount}
 use Rattle.rules.specs.Tests.{every, idsDistinct, newId}
 use Rattle.rules.proofs.Laws.{every-none, every-grow, every-fails, Marked, no-clash, clash, marked-more}
 use borrow.Author.Needs.{needs}
@@ -12,10 +12,10 @@ use Rattle.rules.proofs.ids_distinct.Statement.{statement}
 use Rattle.rules.proofs.ids_distinct.Tie as tie
 
 abbrev Inv-loop : tie.InvT-loop
-Inv-loop cells marks₀ i₀ marks i = (i ≤ most) × (length marks ≡ 256) × (true ≡ every i (newId cells)) × Marked cells i marks
+Inv-loop numbers marks₀ i₀ marks i = (i ≤ slotCount) × (length marks ≡ 256) × (true ≡ every i (newId numbers)) × Marked numbers i marks
 
 abbrev μ-loop : tie.MeasureT-loop
-μ-loop cells marks₀ i₀ marks i = most - i
+μ-loop numbers marks₀ i₀ marks i = slotCount - i
 
 loop-holds : tie.Need-loop-holds Inv-loop μ-loop
 loop-holds c = (search needs, refl, every-none _, λ j h. absurd (omega arith))
@@ -38,9 +38,9 @@ clashes-requires c κs = search needs
 returns : tie.Need-returns Inv-loop μ-loop
 unfolding idsDistinct
 returns c =
-    let a = c .before .before .before .before .before .args .cells .now in
+    let a = c .before .before .before .before .before .args .numbers .now in
     let i = c .before .before .before .before .loop .i in
-    every-fails most i _ (search needs) (clash i (getD (c .before .before .before .before .loop .marks) (getD a i 0 % 256) 0) a (c .before .clashes .result) (c .before .clashes .ensures) (c .if1 .taken))
+    every-fails slotCount i _ (search needs) (clash i (getD (c .before .before .before .before .loop .marks) (getD a i 0 % 256) 0) a (c .before .clashes .result) (c .before .clashes .ensures) (c .if1 .taken))
 
 array-write-marks : tie.Need-array-write-marks Inv-loop μ-loop
 array-write-marks c = search needs
@@ -53,7 +53,7 @@ loop-less c = search needs
 
 loop-again : tie.Need-loop-again Inv-loop μ-loop
 loop-again c =
-    let a = c .before .before .before .before .before .args .cells .now in
+    let a = c .before .before .before .before .before .args .numbers .now in
     let i = c .before .before .before .before .loop .i in
     let v = c .before .before .before .before .loop .inv in
     let n = no-clash i _ a (c .before .before .before .before .loop .marks) _ (v .3) refl (c .before .clashes .ensures) (c .if1 .left) in
@@ -61,7 +61,7 @@ loop-again c =
 
 returns-2 : tie.Need-returns-2 Inv-loop μ-loop
 unfolding idsDistinct
-returns-2 c = let e : c .before .loop .i ≡ most = omega arith in rw e at (c .before .loop .inv .2)
+returns-2 c = let e : c .before .loop .i ≡ slotCount = omega arith in rw e at (c .before .loop .inv .2)
 
 pub ids-distinct-spec : {M : Type 1} → statement M
 ids-distinct-spec =

@@ -9,10 +9,10 @@ use Rattle.rules.proofs.is_among.Statement.{statement}
 use Rattle.rules.proofs.is_among.Tie as tie
 
 abbrev Inv-loop : tie.InvT-loop
-Inv-loop cells n x i₀ i = (i ≤ n) × (among x i cells ≡ false)
+Inv-loop numbers n x i₀ i = (i ≤ n) × (among x i numbers ≡ false)
 
 abbrev μ-loop : tie.MeasureT-loop
-μ-loop cells n x i₀ i = n - i
+μ-loop numbers n x i₀ i = n - i
 
 loop-holds : tie.Need-loop-holds Inv-loop μ-loop
 loop-holds c = (search needs, among-none _ _)

@@ -66,7 +66,7 @@ returns : tie.Need-returns
 unfolding keepsRules
 returns c =
     let a = c .before .before .before .before .before .before .before .before .before .before .before .before .before .before .before .before .before .before .before .args in
-    exactly (a .head) (now (a .cells)) (now (a .times)) (now (a .seats)) (now (a .waiters)) (c .both9 .result) (c .before .before .before .before .before .before .before .before .before .before .before .before .before .before .before .before .before .before .before .pre) (omega (arith, c .before .before .before .before .before .before .before .before .before .before .before .before .before .before .before .before .before .before .before .good))
+    exactly (a .head) (now (a .numbers)) (now (a .times)) (now (a .states)) (now (a .waiters)) (c .both9 .result) (c .before .before .before .before .before .before .before .before .before .before .before .before .before .before .before .before .before .before .before .pre) (omega (arith, c .before .before .before .before .before .before .before .before .before .before .before .before .before .before .before .before .before .before .before .good))
     (and-is (c .both9 .ensures)
     (and-is (c .before .before .before .before .before .both4 .ensures) (and-is (c .before .before .before .before .before .before .before .before .before .before .before .before .before .before .before .before .both .ensures) (c .before .before .before .before .before .before .before .before .before .before .before .before .before .before .before .before .before .in-range .ensures) refl)
     (and-is (c .before .before .before .before .before .before .both3 .ensures) (c .before .before .before .before .before .before .before .before .before .before .before .before .before .before .before .ids-below .ensures) (and-is (c .before .before .before .before .before .before .before .both2 .ensures) (c .before .before .before .before .before .before .before .before .before .before .before .before .before .before .ids-distinct .ensures) (c .before .before .before .before .before .before .before .before .before .before .before .before .before .slots-fit .ensures))))

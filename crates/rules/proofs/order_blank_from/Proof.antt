@@ -4,7 +4,7 @@ use Prim.Native.Nat.{_+_, _≤_, _-_}
 use native.Mathlib.Omega.{arith}
 use lib.ListN.{getD, drop}
 use lib.Seq.{getD-drop}
-use Rattle.definition.specs.Pool.{most}
+use Rattle.definition.specs.Pool.{slotCount}
 use Rattle.rules.specs.Tests.{every, blankPast, blankFrom}
 use Rattle.rules.proofs.Laws.{blank-before, blank-lost, blank-kept}
 use borrow.Author.Needs.{needs}
@@ -14,17 +14,17 @@ use Rattle.rules.proofs.order_blank_from.Reads as reads
 use Rattle.rules.proofs.order_blank_from.Lts as lts
 
 abbrev Inv-loop : tie.InvT-loop
-Inv-loop seats n ok₀ i₀ ok i = (n ≤ i) × (i ≤ most) × (ok ≡ every i (λ j. blankPast n j (getD (drop most seats) j 0)))
+Inv-loop states n ok₀ i₀ ok i = (n ≤ i) × (i ≤ slotCount) × (ok ≡ every i (λ j. blankPast n j (getD (drop slotCount states) j 0)))
 
 abbrev μ-loop : tie.MeasureT-loop
-μ-loop seats n ok₀ i₀ ok i = most - i
+μ-loop states n ok₀ i₀ ok i = slotCount - i
 
 returns : tie.Need-returns Inv-loop μ-loop
 unfolding blankFrom
-returns c = let a = c .before .args in blank-before (a .n) (drop most (a .seats .now)) most (omega (arith, c .if1 .taken))
+returns c = let a = c .before .args in blank-before (a .n) (drop slotCount (a .states .now)) slotCount (omega (arith, c .if1 .taken))
 
 loop-holds : tie.Need-loop-holds Inv-loop μ-loop
-loop-holds c = let a = c .before .args in (omega arith, omega arith, blank-before (a .n) (drop most (a .seats .now)) (a .n) (omega arith))
+loop-holds c = let a = c .before .args in (omega arith, omega arith, blank-before (a .n) (drop slotCount (a .states .now)) (a .n) (omega arith))
 
 add-if2 : tie.Need-add-if2 Inv-loop μ-loop
 add-if2 c = search needs
@@ -42,13 +42,13 @@ loop-again : tie.Need-loop-again Inv-loop μ-loop
 loop-again c =
     let v = c .before .before .before .loop in
     let a = c .before .before .before .before .before .args in
-    let l = drop most (a .seats .now) in
-    let e : getD l (v .i) 0 ≡ getD (a .seats .now) (most + v .i) 0 = getD-drop most (a .seats .now) (v .i) 0 in
+    let l = drop slotCount (a .states .now) in
+    let e : getD l (v .i) 0 ≡ getD (a .states .now) (slotCount + v .i) 0 = getD-drop slotCount (a .states .now) (v .i) 0 in
     (omega arith, omega arith, ⊎-elim (λ w. w .1 ∙ blank-lost (a .n) l (v .i) (v .inv .0) (λ z. w .0 .taken (sym e ∙ z))) (λ w. w .1 ∙ blank-kept (a .n) l (v .i) (v .inv .0) (v .ok) (v .inv .2) (e ∙ w .0 .left)) (c .if2 .came))
 
 returns-2 : tie.Need-returns-2 Inv-loop μ-loop
 unfolding blankFrom
-returns-2 c = let e : c .before .loop .i ≡ most = omega arith in rw e at (c .before .loop .inv .2)
+returns-2 c = let e : c .before .loop .i ≡ slotCount = omega arith in rw e at (c .before .loop .inv .2)
 
 pub order-blank-from-spec : {M : Type 1} → statement M
 order-blank-from-spec =

@@ -2,7 +2,7 @@ use mathlib.Core.Path.{_≡_}
 use Prim.Native.Nat.{_≤_, _-_, _+_}
 use native.Mathlib.Omega.{arith}
 use lib.ListN.{getD}
-use Rattle.definition.specs.Pool.{most}
+use Rattle.definition.specs.Pool.{slotCount}
 use Rattle.rules.specs.Tests.{every, slotFits, slotsFit}
 use Rattle.rules.proofs.Laws.{every-more, every-none}
 use borrow.Author.Needs.{needs}
@@ -10,10 +10,10 @@ use Rattle.rules.proofs.slots_fit.Statement.{statement}
 use Rattle.rules.proofs.slots_fit.Tie as tie
 
 abbrev Inv-loop : tie.InvT-loop
-Inv-loop cells times seats ok₀ i₀ ok i = (i ≤ most) × (ok ≡ every i (λ j. slotFits (getD cells j 0) (getD cells (most + j) 0) (getD times j 0) (getD seats j 0)))
+Inv-loop numbers times states ok₀ i₀ ok i = (i ≤ slotCount) × (ok ≡ every i (λ j. slotFits (getD numbers j 0) (getD numbers (slotCount + j) 0) (getD times j 0) (getD states j 0)))
 
 abbrev μ-loop : tie.MeasureT-loop
-μ-loop cells times seats ok₀ i₀ ok i = most - i
+μ-loop numbers times states ok₀ i₀ ok i = slotCount - i
 
 loop-holds : tie.Need-loop-holds Inv-loop μ-loop
 loop-holds c = (search needs, every-none _)
@@ -59,7 +59,7 @@ loop-again c = (search needs, every-more _ _ _ _ _ (c .before .before .before .b
 
 returns : tie.Need-returns Inv-loop μ-loop
 unfolding slotsFit
-returns c = let e : c .before .loop .i ≡ most = omega arith in rw e at (c .before .loop .inv .1)
+returns c = let e : c .before .loop .i ≡ slotCount = omega arith in rw e at (c .before .loop .inv .1)
 
 pub slots-fit-spec : {M : Type 1} → statement M
 slots-fit-spec =

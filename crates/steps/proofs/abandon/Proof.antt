@@ -30,7 +30,7 @@ returns : tie.Need-returns
 unfolding abandonAt
 returns c =
     let a = c .before .before .args in
-    ap (λ (x : ℕ). withWaiters (poolOf (a .head) (now (a .cells)) (now (a .times)) (now (a .seats)) (now (a .waiters))) (set (now (a .waiters)) (a .k) x) (a .head .«waiting_count»)) (c .abandoned .ensures)
+    ap (λ (x : ℕ). withWaiters (poolOf (a .head) (now (a .numbers)) (now (a .times)) (now (a .states)) (now (a .waiters))) (set (now (a .waiters)) (a .k) x) (a .head .«waiting_count»)) (c .abandoned .ensures)
 
 pub abandon-spec : {M : Type 1} → statement M
 abandon-spec =

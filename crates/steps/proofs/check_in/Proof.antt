@@ -19,8 +19,8 @@ use Rattle.steps.proofs.check_in.Tie as tie
 use Rattle.steps.proofs.check_in.Reads as reads
 use Rattle.steps.proofs.check_in.Lts as lts
 use Rattle.acts.proofs.close_connection.Reads as close-connection-reads
-use Rattle.acts.proofs.is_closed.Reads as is-closed-reads
-use Rattle.words.proofs.long.Reads as long-reads
+use Rattle.conditions.proofs.is_closed.Reads as is-closed-reads
+use Rattle.words.proofs.as_u64.Reads as as-u64-reads
 use Rattle.acts.proofs.shelve.Reads as shelve-reads
 use Rattle.table.proofs.emit.Reads as emit-reads
 
@@ -44,16 +44,16 @@ returns : tie.Need-returns
 unfolding if_then_else_
 returns c =
     let a = c .before .before .before .before .before .before .before .before .before .before .before .before .args in
-    done-as (checkIn-closed (poolOf (a .head) (now (a .cells)) (now (a .times)) (now (a .seats)) (now (a .waiters))) (a .i) (a .errored) (a .executing) (a .let-go) (sym (c .before .before .before .before .before .before .before .before .before .is-closed .ensures) ∙ c .before .before .before .before .before .before .before .before .if1 .taken)) (c .before .before .close-connection .ensures)
+    done-as (checkIn-closed (poolOf (a .head) (now (a .numbers)) (now (a .times)) (now (a .states)) (now (a .waiters))) (a .i) (a .errored) (a .executing) (a .let-go) (sym (c .before .before .before .before .before .before .before .before .before .is-closed .ensures) ∙ c .before .before .before .before .before .before .before .before .if1 .taken)) (c .before .before .close-connection .ensures)
 
-mul-long : tie.Need-mul-long
-mul-long c = search needs
+mul-as-u64 : tie.Need-mul-as-u64
+mul-as-u64 c = search needs
 
-element-copy-out-long : tie.Need-element-copy-out-long
-element-copy-out-long c = search needs
+element-copy-out-as-u64 : tie.Need-element-copy-out-as-u64
+element-copy-out-as-u64 c = search needs
 
-long-requires : tie.Need-long-requires
-long-requires c κs = search needs
+as-u64-requires : tie.Need-as-u64-requires
+as-u64-requires c κs = search needs
 
 emit-requires : tie.Need-emit-requires
 emit-requires c κs = search needs
@@ -71,10 +71,10 @@ returns-2 : tie.Need-returns-2
 unfolding if_then_else_
 returns-2 c =
     let a = c .before .before .before .before .before .before .before .before .before .before .before .before .before .before .before .before .before .before .before .args in
-    let r = ConnectionCheckedIn (idAt (poolOf (a .head) (now (a .cells)) (now (a .times)) (now (a .seats)) (now (a .waiters))) (a .i)) in
-    let i = id-at (a .head) (now (a .cells)) (now (a .times)) (now (a .seats)) (now (a .waiters)) (a .i) (c .before .before .before .before .before .before .before .before .before .before .before .before .before .before .before .before .before .before .before .pre .1 .slot) in
-    done-as (checkIn-errored (poolOf (a .head) (now (a .cells)) (now (a .times)) (now (a .seats)) (now (a .waiters))) (a .i) (a .errored) (a .executing) (a .let-go) (sym (c .before .before .before .before .before .before .before .before .before .before .before .before .before .before .before .before .is-closed .ensures) ∙ c .before .before .before .before .before .before .before .before .before .before .before .before .before .before .before .if1 .left) (c .before .before .before .before .before .before .before .before .if2 .taken))
-    (done-then (emit r) (closeAt Error (a .i)) (poolOf (a .head) (now (a .cells)) (now (a .times)) (now (a .seats)) (now (a .waiters))) (poolOf (a .head) (now (a .cells)) (now (a .times)) (now (a .seats)) (now (a .waiters))) _ (done-emit r (poolOf (a .head) (now (a .cells)) (now (a .times)) (now (a .seats)) (now (a .waiters))) refl (rw (i, ← c .before .before .before .before .before .before .before .before .before .before .before .before .long .ensures) (c .before .before .before .before .before .before .before .before .before .before .before .emit .ensures))) (c .before .before .close-connection2 .ensures))
+    let r = ConnectionCheckedIn (idAt (poolOf (a .head) (now (a .numbers)) (now (a .times)) (now (a .states)) (now (a .waiters))) (a .i)) in
+    let i = id-at (a .head) (now (a .numbers)) (now (a .times)) (now (a .states)) (now (a .waiters)) (a .i) (c .before .before .before .before .before .before .before .before .before .before .before .before .before .before .before .before .before .before .before .pre .1 .slot) in
+    done-as (checkIn-errored (poolOf (a .head) (now (a .numbers)) (now (a .times)) (now (a .states)) (now (a .waiters))) (a .i) (a .errored) (a .executing) (a .let-go) (sym (c .before .before .before .before .before .before .before .before .before .before .before .before .before .before .before .before .is-closed .ensures) ∙ c .before .before .before .before .before .before .before .before .before .before .before .before .before .before .before .if1 .left) (c .before .before .before .before .before .before .before .before .if2 .taken))
+    (done-then (emit r) (closeAt Error (a .i)) (poolOf (a .head) (now (a .numbers)) (now (a .times)) (now (a .states)) (now (a .waiters))) (poolOf (a .head) (now (a .numbers)) (now (a .times)) (now (a .states)) (now (a .waiters))) _ (done-emit r (poolOf (a .head) (now (a .numbers)) (now (a .times)) (now (a .states)) (now (a .waiters))) refl (rw (i, ← c .before .before .before .before .before .before .before .before .before .before .before .before .as-u64 .ensures) (c .before .before .before .before .before .before .before .before .before .before .before .emit .ensures))) (c .before .before .close-connection2 .ensures))
 
 add-if3 : tie.Need-add-if3
 add-if3 c = search needs
@@ -98,12 +98,12 @@ returns-3 : tie.Need-returns-3
 unfolding if_then_else_
 returns-3 c =
     let a = c .before .before .before .before .before .before .before .before .before .before .before .before .before .before .before .before .before .before .before .before .before .before .args in
-    let r = ConnectionCheckedIn (idAt (poolOf (a .head) (now (a .cells)) (now (a .times)) (now (a .seats)) (now (a .waiters))) (a .i)) in
+    let r = ConnectionCheckedIn (idAt (poolOf (a .head) (now (a .numbers)) (now (a .times)) (now (a .states)) (now (a .waiters))) (a .i)) in
     let low = c .before .before .before .before .before .before .before .before .before .before .before .before .before .before .before .before .before .before .before .before .before .before .pre .1 .slot in
-    let i = id-at (a .head) (now (a .cells)) (now (a .times)) (now (a .seats)) (now (a .waiters)) (a .i) low in
-    let g = generation-at (a .head) (now (a .cells)) (now (a .times)) (now (a .seats)) (now (a .waiters)) (c .before .before .before .before .before .before .before .before .before .before .before .before .before .before .before .before .before .before .before .before .before .before .pre .0) (a .i) low in
-    done-as (checkIn-stale (poolOf (a .head) (now (a .cells)) (now (a .times)) (now (a .seats)) (now (a .waiters))) (a .i) (a .errored) (a .executing) (a .let-go) (sym (c .before .before .before .before .before .before .before .before .before .before .before .before .before .before .before .before .before .before .before .is-closed .ensures) ∙ c .before .before .before .before .before .before .before .before .before .before .before .before .before .before .before .before .before .before .if1 .left) (c .before .before .before .before .before .before .before .before .before .before .before .if2 .left) (stale-yes _ _ _ g (c .before .before .before .before .before .before .before .before .if3 .taken)))
-    (done-then (emit r) (closeAt Stale (a .i)) (poolOf (a .head) (now (a .cells)) (now (a .times)) (now (a .seats)) (now (a .waiters))) (poolOf (a .head) (now (a .cells)) (now (a .times)) (now (a .seats)) (now (a .waiters))) _ (done-emit r (poolOf (a .head) (now (a .cells)) (now (a .times)) (now (a .seats)) (now (a .waiters))) refl (rw (i, ← c .before .before .before .before .before .before .before .before .before .before .before .before .before .before .before .long .ensures) (c .before .before .before .before .before .before .before .before .before .before .before .before .before .before .emit .ensures))) (c .before .before .close-connection3 .ensures))
+    let i = id-at (a .head) (now (a .numbers)) (now (a .times)) (now (a .states)) (now (a .waiters)) (a .i) low in
+    let g = generation-at (a .head) (now (a .numbers)) (now (a .times)) (now (a .states)) (now (a .waiters)) (c .before .before .before .before .before .before .before .before .before .before .before .before .before .before .before .before .before .before .before .before .before .before .pre .0) (a .i) low in
+    done-as (checkIn-stale (poolOf (a .head) (now (a .numbers)) (now (a .times)) (now (a .states)) (now (a .waiters))) (a .i) (a .errored) (a .executing) (a .let-go) (sym (c .before .before .before .before .before .before .before .before .before .before .before .before .before .before .before .before .before .before .before .is-closed .ensures) ∙ c .before .before .before .before .before .before .before .before .before .before .before .before .before .before .before .before .before .before .if1 .left) (c .before .before .before .before .before .before .before .before .before .before .before .if2 .left) (stale-yes _ _ _ g (c .before .before .before .before .before .before .before .before .if3 .taken)))
+    (done-then (emit r) (closeAt Stale (a .i)) (poolOf (a .head) (now (a .numbers)) (now (a .times)) (now (a .states)) (now (a .waiters))) (poolOf (a .head) (now (a .numbers)) (now (a .times)) (now (a .states)) (now (a .waiters))) _ (done-emit r (poolOf (a .head) (now (a .numbers)) (now (a .times)) (now (a .states)) (now (a .waiters))) refl (rw (i, ← c .before .before .before .before .before .before .before .before .before .before .before .before .before .before .before .as-u64 .ensures) (c .before .before .before .before .before .before .before .before .before .before .before .before .before .before .emit .ensures))) (c .before .before .close-connection3 .ensures))
 
 add-close-connection-3 : tie.Need-add-close-connection-3
 add-close-connection-3 c = search needs
@@ -118,12 +118,12 @@ returns-4 : tie.Need-returns-4
 unfolding if_then_else_
 returns-4 c =
     let a = c .before .before .before .before .before .before .before .before .before .before .before .before .before .before .before .before .before .before .before .before .before .before .before .args in
-    let r = ConnectionCheckedIn (idAt (poolOf (a .head) (now (a .cells)) (now (a .times)) (now (a .seats)) (now (a .waiters))) (a .i)) in
+    let r = ConnectionCheckedIn (idAt (poolOf (a .head) (now (a .numbers)) (now (a .times)) (now (a .states)) (now (a .waiters))) (a .i)) in
     let low = c .before .before .before .before .before .before .before .before .before .before .before .before .before .before .before .before .before .before .before .before .before .before .before .pre .1 .slot in
-    let i = id-at (a .head) (now (a .cells)) (now (a .times)) (now (a .seats)) (now (a .waiters)) (a .i) low in
-    let g = generation-at (a .head) (now (a .cells)) (now (a .times)) (now (a .seats)) (now (a .waiters)) (c .before .before .before .before .before .before .before .before .before .before .before .before .before .before .before .before .before .before .before .before .before .before .before .pre .0) (a .i) low in
-    done-as (checkIn-executing (poolOf (a .head) (now (a .cells)) (now (a .times)) (now (a .seats)) (now (a .waiters))) (a .i) (a .errored) (a .executing) (a .let-go) (sym (c .before .before .before .before .before .before .before .before .before .before .before .before .before .before .before .before .before .before .before .before .is-closed .ensures) ∙ c .before .before .before .before .before .before .before .before .before .before .before .before .before .before .before .before .before .before .before .if1 .left) (c .before .before .before .before .before .before .before .before .before .before .before .before .if2 .left) (stale-no _ _ _ g (c .before .before .before .before .before .before .before .before .before .if3 .left)) (c .before .before .before .before .before .before .before .before .if4 .taken))
-    (done-then (emit r) (closeAt Dropped (a .i)) (poolOf (a .head) (now (a .cells)) (now (a .times)) (now (a .seats)) (now (a .waiters))) (poolOf (a .head) (now (a .cells)) (now (a .times)) (now (a .seats)) (now (a .waiters))) _ (done-emit r (poolOf (a .head) (now (a .cells)) (now (a .times)) (now (a .seats)) (now (a .waiters))) refl (rw (i, ← c .before .before .before .before .before .before .before .before .before .before .before .before .before .before .before .before .long .ensures) (c .before .before .before .before .before .before .before .before .before .before .before .before .before .before .before .emit .ensures))) (c .before .before .close-connection4 .ensures))
+    let i = id-at (a .head) (now (a .numbers)) (now (a .times)) (now (a .states)) (now (a .waiters)) (a .i) low in
+    let g = generation-at (a .head) (now (a .numbers)) (now (a .times)) (now (a .states)) (now (a .waiters)) (c .before .before .before .before .before .before .before .before .before .before .before .before .before .before .before .before .before .before .before .before .before .before .before .pre .0) (a .i) low in
+    done-as (checkIn-executing (poolOf (a .head) (now (a .numbers)) (now (a .times)) (now (a .states)) (now (a .waiters))) (a .i) (a .errored) (a .executing) (a .let-go) (sym (c .before .before .before .before .before .before .before .before .before .before .before .before .before .before .before .before .before .before .before .before .is-closed .ensures) ∙ c .before .before .before .before .before .before .before .before .before .before .before .before .before .before .before .before .before .before .before .if1 .left) (c .before .before .before .before .before .before .before .before .before .before .before .before .if2 .left) (stale-no _ _ _ g (c .before .before .before .before .before .before .before .before .before .if3 .left)) (c .before .before .before .before .before .before .before .before .if4 .taken))
+    (done-then (emit r) (closeAt Dropped (a .i)) (poolOf (a .head) (now (a .numbers)) (now (a .times)) (now (a .states)) (now (a .waiters))) (poolOf (a .head) (now (a .numbers)) (now (a .times)) (now (a .states)) (now (a .waiters))) _ (done-emit r (poolOf (a .head) (now (a .numbers)) (now (a .times)) (now (a .states)) (now (a .waiters))) refl (rw (i, ← c .before .before .before .before .before .before .before .before .before .before .before .before .before .before .before .before .as-u64 .ensures) (c .before .before .before .before .before .before .before .before .before .before .before .before .before .before .before .emit .ensures))) (c .before .before .close-connection4 .ensures))
 
 shelve-requires : tie.Need-shelve-requires
 shelve-requires c κs = search needs
@@ -138,12 +138,12 @@ returns-5 : tie.Need-returns-5
 unfolding shelve
 returns-5 c =
     let a = c .before .before .before .before .before .before .before .before .before .before .before .before .before .before .before .before .before .before .before .before .args in
-    let r = ConnectionCheckedIn (idAt (poolOf (a .head) (now (a .cells)) (now (a .times)) (now (a .seats)) (now (a .waiters))) (a .i)) in
+    let r = ConnectionCheckedIn (idAt (poolOf (a .head) (now (a .numbers)) (now (a .times)) (now (a .states)) (now (a .waiters))) (a .i)) in
     let low = c .before .before .before .before .before .before .before .before .before .before .before .before .before .before .before .before .before .before .before .before .pre .1 .slot in
-    let i = id-at (a .head) (now (a .cells)) (now (a .times)) (now (a .seats)) (now (a .waiters)) (a .i) low in
-    let g = generation-at (a .head) (now (a .cells)) (now (a .times)) (now (a .seats)) (now (a .waiters)) (c .before .before .before .before .before .before .before .before .before .before .before .before .before .before .before .before .before .before .before .before .pre .0) (a .i) low in
-    done-as (checkIn-kept (poolOf (a .head) (now (a .cells)) (now (a .times)) (now (a .seats)) (now (a .waiters))) (a .i) (a .errored) (a .executing) (a .let-go) (sym (c .before .before .before .before .before .before .before .before .before .before .before .before .before .before .before .before .before .is-closed .ensures) ∙ c .before .before .before .before .before .before .before .before .before .before .before .before .before .before .before .before .if1 .left) (c .before .before .before .before .before .before .before .before .before .if2 .left) (stale-no _ _ _ g (c .before .before .before .before .before .before .if3 .left)) (c .before .before .before .before .before .if4 .left))
-    (done-then (emit r) (shelve (a .i) (a .let-go)) (poolOf (a .head) (now (a .cells)) (now (a .times)) (now (a .seats)) (now (a .waiters))) (poolOf (a .head) (now (a .cells)) (now (a .times)) (now (a .seats)) (now (a .waiters))) _ (done-emit r (poolOf (a .head) (now (a .cells)) (now (a .times)) (now (a .seats)) (now (a .waiters))) refl (rw (i, ← c .before .before .before .before .before .before .before .before .before .before .before .before .before .long .ensures) (c .before .before .before .before .before .before .before .before .before .before .before .before .emit .ensures))) (done-quiet _ refl (c .shelve .ensures)))
+    let i = id-at (a .head) (now (a .numbers)) (now (a .times)) (now (a .states)) (now (a .waiters)) (a .i) low in
+    let g = generation-at (a .head) (now (a .numbers)) (now (a .times)) (now (a .states)) (now (a .waiters)) (c .before .before .before .before .before .before .before .before .before .before .before .before .before .before .before .before .before .before .before .before .pre .0) (a .i) low in
+    done-as (checkIn-kept (poolOf (a .head) (now (a .numbers)) (now (a .times)) (now (a .states)) (now (a .waiters))) (a .i) (a .errored) (a .executing) (a .let-go) (sym (c .before .before .before .before .before .before .before .before .before .before .before .before .before .before .before .before .before .is-closed .ensures) ∙ c .before .before .before .before .before .before .before .before .before .before .before .before .before .before .before .before .if1 .left) (c .before .before .before .before .before .before .before .before .before .if2 .left) (stale-no _ _ _ g (c .before .before .before .before .before .before .if3 .left)) (c .before .before .before .before .before .if4 .left))
+    (done-then (emit r) (shelve (a .i) (a .let-go)) (poolOf (a .head) (now (a .numbers)) (now (a .times)) (now (a .states)) (now (a .waiters))) (poolOf (a .head) (now (a .numbers)) (now (a .times)) (now (a .states)) (now (a .waiters))) _ (done-emit r (poolOf (a .head) (now (a .numbers)) (now (a .times)) (now (a .states)) (now (a .waiters))) refl (rw (i, ← c .before .before .before .before .before .before .before .before .before .before .before .before .before .as-u64 .ensures) (c .before .before .before .before .before .before .before .before .before .before .before .before .emit .ensures))) (done-quiet _ refl (c .shelve .ensures)))
 
 pub check-in-spec : {M : Type 1} → statement M
 check-in-spec =
@@ -153,9 +153,9 @@ check-in-spec =
     close-connection-requires
     same-length
     returns
-    mul-long
-    element-copy-out-long
-    long-requires
+    mul-as-u64
+    element-copy-out-as-u64
+    as-u64-requires
     emit-requires
     add-close-connection
     close-connection-requires-2

@@ -25,7 +25,7 @@ returns : tie.Need-returns
 unfolding failedAt leavePending if_then_else_
 returns c =
     let a = c .before .before .before .before .before .before .before .before .before .before .args in
-    done-then leavePending (closeAt Error (a .i)) (poolOf (a .head) (now (a .cells)) (now (a .times)) (now (a .seats)) (now (a .waiters))) _ _ (done-quiet (leavePending (poolOf (a .head) (now (a .cells)) (now (a .times)) (now (a .seats)) (now (a .waiters)))) refl refl) (c .before .before .close-connection .ensures)
+    done-then leavePending (closeAt Error (a .i)) (poolOf (a .head) (now (a .numbers)) (now (a .times)) (now (a .states)) (now (a .waiters))) _ _ (done-quiet (leavePending (poolOf (a .head) (now (a .numbers)) (now (a .times)) (now (a .states)) (now (a .waiters)))) refl refl) (c .before .before .close-connection .ensures)
 
 pub handle-connection-failed-spec : {M : Type 1} → statement M
 handle-connection-failed-spec =

@@ -17,19 +17,19 @@ use Rattle.steps.proofs.handle_connection_succeeded_for_pool.Tie as tie
 use Rattle.steps.proofs.handle_connection_succeeded_for_pool.Reads as reads
 use Rattle.steps.proofs.handle_connection_succeeded_for_pool.Lts as lts
 use Rattle.acts.proofs.close_connection.Reads as close-connection-reads
-use Rattle.acts.proofs.is_closed.Reads as is-closed-reads
-use Rattle.words.proofs.long.Reads as long-reads
+use Rattle.conditions.proofs.is_closed.Reads as is-closed-reads
+use Rattle.words.proofs.as_u64.Reads as as-u64-reads
 use Rattle.acts.proofs.shelve.Reads as shelve-reads
 use Rattle.table.proofs.emit.Reads as emit-reads
 
-mul-long : tie.Need-mul-long
-mul-long c = search needs
+mul-as-u64 : tie.Need-mul-as-u64
+mul-as-u64 c = search needs
 
-element-copy-out-long : tie.Need-element-copy-out-long
-element-copy-out-long c = search needs
+element-copy-out-as-u64 : tie.Need-element-copy-out-as-u64
+element-copy-out-as-u64 c = search needs
 
-long-requires : tie.Need-long-requires
-long-requires c κs = search needs
+as-u64-requires : tie.Need-as-u64-requires
+as-u64-requires c κs = search needs
 
 emit-requires : tie.Need-emit-requires
 emit-requires c κs = search needs
@@ -53,12 +53,12 @@ returns : tie.Need-returns
 unfolding leavePending if_then_else_
 returns c =
     let a = c .before .before .before .before .before .before .before .before .before .before .before .before .before .before .before .before .before .before .before .args in
-    let r = ConnectionReady (idAt (poolOf (a .head) (now (a .cells)) (now (a .times)) (now (a .seats)) (now (a .waiters))) (a .i)) in
-    let i = id-at (a .head) (now (a .cells)) (now (a .times)) (now (a .seats)) (now (a .waiters)) (a .i) (c .before .before .before .before .before .before .before .before .before .before .before .before .before .before .before .before .before .before .before .pre .1 .slot) in
-    done-as (opened-closed (poolOf (a .head) (now (a .cells)) (now (a .times)) (now (a .seats)) (now (a .waiters))) (a .i) (a .opened) (sym (c .before .before .before .before .before .before .before .before .before .is-closed .ensures) ∙ c .before .before .before .before .before .before .before .before .if1 .taken))
-    (done-then (emit r) (leavePending >> closeAt PoolClosed (a .i)) (poolOf (a .head) (now (a .cells)) (now (a .times)) (now (a .seats)) (now (a .waiters))) (poolOf (a .head) (now (a .cells)) (now (a .times)) (now (a .seats)) (now (a .waiters))) _
-    (done-emit r (poolOf (a .head) (now (a .cells)) (now (a .times)) (now (a .seats)) (now (a .waiters))) refl (rw (i, ← c .before .before .before .before .before .before .before .before .before .before .before .before .before .before .before .long .ensures) (c .before .before .before .before .before .before .before .before .before .before .before .before .before .before .emit .ensures)))
-    (done-then leavePending (closeAt PoolClosed (a .i)) (poolOf (a .head) (now (a .cells)) (now (a .times)) (now (a .seats)) (now (a .waiters))) _ _ (done-quiet (leavePending (poolOf (a .head) (now (a .cells)) (now (a .times)) (now (a .seats)) (now (a .waiters)))) refl refl) (c .before .before .close-connection .ensures)))
+    let r = ConnectionReady (idAt (poolOf (a .head) (now (a .numbers)) (now (a .times)) (now (a .states)) (now (a .waiters))) (a .i)) in
+    let i = id-at (a .head) (now (a .numbers)) (now (a .times)) (now (a .states)) (now (a .waiters)) (a .i) (c .before .before .before .before .before .before .before .before .before .before .before .before .before .before .before .before .before .before .before .pre .1 .slot) in
+    done-as (opened-closed (poolOf (a .head) (now (a .numbers)) (now (a .times)) (now (a .states)) (now (a .waiters))) (a .i) (a .opened) (sym (c .before .before .before .before .before .before .before .before .before .is-closed .ensures) ∙ c .before .before .before .before .before .before .before .before .if1 .taken))
+    (done-then (emit r) (leavePending >> closeAt PoolClosed (a .i)) (poolOf (a .head) (now (a .numbers)) (now (a .times)) (now (a .states)) (now (a .waiters))) (poolOf (a .head) (now (a .numbers)) (now (a .times)) (now (a .states)) (now (a .waiters))) _
+    (done-emit r (poolOf (a .head) (now (a .numbers)) (now (a .times)) (now (a .states)) (now (a .waiters))) refl (rw (i, ← c .before .before .before .before .before .before .before .before .before .before .before .before .before .before .before .as-u64 .ensures) (c .before .before .before .before .before .before .before .before .before .before .before .before .before .before .emit .ensures)))
+    (done-then leavePending (closeAt PoolClosed (a .i)) (poolOf (a .head) (now (a .numbers)) (now (a .times)) (now (a .states)) (now (a .waiters))) _ _ (done-quiet (leavePending (poolOf (a .head) (now (a .numbers)) (now (a .times)) (now (a .states)) (now (a .waiters)))) refl refl) (c .before .before .close-connection .ensures)))
 
 shelve-requires : tie.Need-shelve-requires
 shelve-requires c κs = search needs
@@ -73,20 +73,20 @@ returns-2 : tie.Need-returns-2
 unfolding leavePending shelve
 returns-2 c =
     let a = c .before .before .before .before .before .before .before .before .before .before .before .before .before .before .before .before .args in
-    let r = ConnectionReady (idAt (poolOf (a .head) (now (a .cells)) (now (a .times)) (now (a .seats)) (now (a .waiters))) (a .i)) in
-    let i = id-at (a .head) (now (a .cells)) (now (a .times)) (now (a .seats)) (now (a .waiters)) (a .i) (c .before .before .before .before .before .before .before .before .before .before .before .before .before .before .before .before .pre .1 .slot) in
-    done-as (opened-kept (poolOf (a .head) (now (a .cells)) (now (a .times)) (now (a .seats)) (now (a .waiters))) (a .i) (a .opened) (sym (c .before .before .before .before .before .before .is-closed .ensures) ∙ c .before .before .before .before .before .if1 .left))
-    (done-then (emit r) (leavePending >> shelve (a .i) (a .opened)) (poolOf (a .head) (now (a .cells)) (now (a .times)) (now (a .seats)) (now (a .waiters))) (poolOf (a .head) (now (a .cells)) (now (a .times)) (now (a .seats)) (now (a .waiters))) _
-    (done-emit r (poolOf (a .head) (now (a .cells)) (now (a .times)) (now (a .seats)) (now (a .waiters))) refl (rw (i, ← c .before .before .before .before .before .before .before .before .before .before .before .before .long .ensures) (c .before .before .before .before .before .before .before .before .before .before .before .emit .ensures)))
-    (done-then leavePending (shelve (a .i) (a .opened)) (poolOf (a .head) (now (a .cells)) (now (a .times)) (now (a .seats)) (now (a .waiters))) _ _ (done-quiet (leavePending (poolOf (a .head) (now (a .cells)) (now (a .times)) (now (a .seats)) (now (a .waiters)))) refl refl) (done-quiet _ refl (c .shelve .ensures))))
+    let r = ConnectionReady (idAt (poolOf (a .head) (now (a .numbers)) (now (a .times)) (now (a .states)) (now (a .waiters))) (a .i)) in
+    let i = id-at (a .head) (now (a .numbers)) (now (a .times)) (now (a .states)) (now (a .waiters)) (a .i) (c .before .before .before .before .before .before .before .before .before .before .before .before .before .before .before .before .pre .1 .slot) in
+    done-as (opened-kept (poolOf (a .head) (now (a .numbers)) (now (a .times)) (now (a .states)) (now (a .waiters))) (a .i) (a .opened) (sym (c .before .before .before .before .before .before .is-closed .ensures) ∙ c .before .before .before .before .before .if1 .left))
+    (done-then (emit r) (leavePending >> shelve (a .i) (a .opened)) (poolOf (a .head) (now (a .numbers)) (now (a .times)) (now (a .states)) (now (a .waiters))) (poolOf (a .head) (now (a .numbers)) (now (a .times)) (now (a .states)) (now (a .waiters))) _
+    (done-emit r (poolOf (a .head) (now (a .numbers)) (now (a .times)) (now (a .states)) (now (a .waiters))) refl (rw (i, ← c .before .before .before .before .before .before .before .before .before .before .before .before .as-u64 .ensures) (c .before .before .before .before .before .before .before .before .before .before .before .emit .ensures)))
+    (done-then leavePending (shelve (a .i) (a .opened)) (poolOf (a .head) (now (a .numbers)) (now (a .times)) (now (a .states)) (now (a .waiters))) _ _ (done-quiet (leavePending (poolOf (a .head) (now (a .numbers)) (now (a .times)) (now (a .states)) (now (a .waiters)))) refl refl) (done-quiet _ refl (c .shelve .ensures))))
 
 pub handle-connection-succeeded-for-pool-spec : {M : Type 1} → statement M
 handle-connection-succeeded-for-pool-spec =
     tie.close
     (tie.spec
-    mul-long
-    element-copy-out-long
-    long-requires
+    mul-as-u64
+    element-copy-out-as-u64
+    as-u64-requires
     emit-requires
     sub-h
     is-closed-requires

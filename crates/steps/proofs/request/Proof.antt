@@ -12,15 +12,15 @@ use Rattle.steps.proofs.request.Statement.{statement}
 use Rattle.steps.proofs.request.Tie as tie
 use Rattle.steps.proofs.request.Reads as reads
 use Rattle.steps.proofs.request.Lts as lts
-use Rattle.words.proofs.long.Reads as long-reads
+use Rattle.words.proofs.as_u64.Reads as as-u64-reads
 use Rattle.steps.proofs.mark.Reads as mark-reads
 use Rattle.table.proofs.emit.Reads as emit-reads
 
 enum-told : tie.Need-enum-told
 enum-told c = search needs
 
-long-requires : tie.Need-long-requires
-long-requires c κs = search needs
+as-u64-requires : tie.Need-as-u64-requires
+as-u64-requires c κs = search needs
 
 emit-requires : tie.Need-emit-requires
 emit-requires c κs = search needs
@@ -31,8 +31,8 @@ add-t20 c = search needs
 enum-known-st : tie.Need-enum-known-st
 enum-known-st c = search needs
 
-long-requires-2 : tie.Need-long-requires-2
-long-requires-2 c κs = search needs
+as-u64-requires-2 : tie.Need-as-u64-requires-2
+as-u64-requires-2 c κs = search needs
 
 emit-requires-2 : tie.Need-emit-requires-2
 emit-requires-2 c κs = search needs
@@ -43,8 +43,8 @@ add-t25 c = search needs
 enum-told-2 : tie.Need-enum-told-2
 enum-told-2 c = search needs
 
-long-requires-3 : tie.Need-long-requires-3
-long-requires-3 c κs = search needs
+as-u64-requires-3 : tie.Need-as-u64-requires-3
+as-u64-requires-3 c κs = search needs
 
 mul-waiters : tie.Need-mul-waiters
 mul-waiters c = search needs
@@ -73,8 +73,8 @@ same-length c = search needs
 returns : tie.Need-returns
 returns c =
     let a = c .before .before .before .before .before .before .before .before .before .args in
-    done-as (request-new (poolOf (a .head) (now (a .cells)) (now (a .times)) (now (a .seats)) (now (a .waiters))) (a .id) (a .warm) (c .before .before .before .before .before .enum-told .given .1))
-    (done-emit (Replied (a .id) (Cleared 0)) _ refl (rw (← c .before .before .before .long .ensures) (c .before .before .emit .ensures)))
+    done-as (request-new (poolOf (a .head) (now (a .numbers)) (now (a .times)) (now (a .states)) (now (a .waiters))) (a .id) (a .warm) (c .before .before .before .before .before .enum-told .given .1))
+    (done-emit (Replied (a .id) (Cleared 0)) _ refl (rw (← c .before .before .before .as-u64 .ensures) (c .before .before .emit .ensures)))
 
 same-length-2 : tie.Need-same-length-2
 same-length-2 c = search needs
@@ -82,34 +82,34 @@ same-length-2 c = search needs
 returns-2 : tie.Need-returns-2
 returns-2 c =
     let a = c .before .before .before .before .before .before .before .before .before .before .args in
-    done-as (request-paused (poolOf (a .head) (now (a .cells)) (now (a .times)) (now (a .seats)) (now (a .waiters))) (a .id) (a .warm) _ (c .before .before .before .before .before .before .st .given .1))
-    (done-emit (Replied (a .id) (Cleared _)) _ refl (rw (← c .before .before .before .long2 .ensures) (c .before .before .emit2 .ensures)))
+    done-as (request-paused (poolOf (a .head) (now (a .numbers)) (now (a .times)) (now (a .states)) (now (a .waiters))) (a .id) (a .warm) _ (c .before .before .before .before .before .before .st .given .1))
+    (done-emit (Replied (a .id) (Cleared _)) _ refl (rw (← c .before .before .before .as-u642 .ensures) (c .before .before .emit2 .ensures)))
 
 returns-3 : tie.Need-returns-3
 returns-3 c =
     let a = c .before .before .before .before .before .before .args in
-    done-as (request-ready (poolOf (a .head) (now (a .cells)) (now (a .times)) (now (a .seats)) (now (a .waiters))) (a .id) (a .warm) (c .before .before .enum-told2 .given .1))
-    (done-quiet _ refl (rw (c .before .long3 .ensures, c .mark .ensures .0) refl))
+    done-as (request-ready (poolOf (a .head) (now (a .numbers)) (now (a .times)) (now (a .states)) (now (a .waiters))) (a .id) (a .warm) (c .before .before .enum-told2 .given .1))
+    (done-quiet _ refl (rw (c .before .as-u643 .ensures, c .mark .ensures .0) refl))
 
 returns-4 : tie.Need-returns-4
 returns-4 c =
     let a = c .before .before .before .before .args in
-    done-as (request-closed (poolOf (a .head) (now (a .cells)) (now (a .times)) (now (a .seats)) (now (a .waiters))) (a .id) (a .warm) (c .enum-told3 .given .1)) (done-quiet _ refl refl)
+    done-as (request-closed (poolOf (a .head) (now (a .numbers)) (now (a .times)) (now (a .states)) (now (a .waiters))) (a .id) (a .warm) (c .enum-told3 .given .1)) (done-quiet _ refl refl)
 
 pub request-spec : {M : Type 1} → statement M
 request-spec =
     tie.close
     (tie.spec
     enum-told
-    long-requires
+    as-u64-requires
     emit-requires
     add-t20
     enum-known-st
-    long-requires-2
+    as-u64-requires-2
     emit-requires-2
     add-t25
     enum-told-2
-    long-requires-3
+    as-u64-requires-3
     mul-waiters
     mark-requires
     add-waiters

@@ -6,24 +6,24 @@ use borrow.Author.Tests.{not-true, not-false}
 use denote.Ref.{now}
 use Rattle.definition.specs.Pool.{isReady}
 use Rattle.slots.specs.View.{SlotPool, poolOf}
-use Rattle.slots.specs.DoneLaws.{done-as, done-nothing, told-done}
+use Rattle.slots.specs.DoneLaws.{done-as, done-nothing, underway-done}
 use Rattle.sweeps.proofs.Laws.{Filling, fill-start, fill-room, fill-turn, created-total, fill-enough, fill-busy, fill-not, fill-ready}
 use borrow.Author.Needs.{needs}
 use Rattle.sweeps.proofs.ensure_min_connections.Statement.{statement}
 use Rattle.sweeps.proofs.ensure_min_connections.Tie as tie
 
 abbrev Inv-loop : tie.InvT-loop
-Inv-loop cells₀ times₀ seats₀ waiters₀ out₀ n h₀ count₀ o cells times seats waiters out h count = Filling (h₀ .serial) (h₀ .options .minimum) count₀ (poolOf h₀ cells₀ times₀ seats₀ waiters₀) out₀ o count (poolOf h cells times seats waiters) out
+Inv-loop cells₀ times₀ seats₀ waiters₀ out₀ n h₀ count₀ o numbers times states waiters out h count = Filling (h₀ .serial) (h₀ .options .minimum) count₀ (poolOf h₀ cells₀ times₀ seats₀ waiters₀) out₀ o count (poolOf h numbers times states waiters) out
 
 abbrev μ-loop : tie.MeasureT-loop
-μ-loop cells₀ times₀ seats₀ waiters₀ out₀ n h₀ count₀ o cells times seats waiters out h count = o .minimum - h .«total_connection_count»
+μ-loop cells₀ times₀ seats₀ waiters₀ out₀ n h₀ count₀ o numbers times states waiters out h count = o .minimum - h .«total_connection_count»
 
 -- the pool that the parts make as a turn starts
 abbrev at : tie.At-loop Inv-loop μ-loop → SlotPool
-at l = poolOf (l .loop .h) (l .loop .cells) (l .loop .times) (l .loop .seats) (l .loop .waiters)
+at l = poolOf (l .loop .h) (l .loop .numbers) (l .loop .times) (l .loop .states) (l .loop .waiters)
 
 abbrev start : tie.Start Inv-loop μ-loop → SlotPool
-start c = (poolOf (c .args .head) (now (c .args .cells)) (now (c .args .times)) (now (c .args .seats)) (now (c .args .waiters)))
+start c = (poolOf (c .args .head) (now (c .args .numbers)) (now (c .args .times)) (now (c .args .states)) (now (c .args .waiters)))
 
 ready : (c : tie.Else1 Inv-loop μ-loop) → isReady (start (c .before .before .before .before) .state) ≡ true
 ready c = sym (c .before .is-ready .ensures) ∙ not-false _ (c .if1 .left)
@@ -46,7 +46,7 @@ returns-2 : tie.Need-returns-2 Inv-loop μ-loop
 returns-2 c =
     let l = c .before .before .before .before .before .before in
     let v = l .loop .inv in
-    done-as (fill-ready (start (c .before .before .before .before .before .before .before .before .before .before .before .before)) (ready (c .before .before .before .before .before .before .before .before))) (told-done _ _ _ (rw (fill-busy (v .left) (at l) (rw (v .options) (c .if3 .taken))) at (v .told)))
+    done-as (fill-ready (start (c .before .before .before .before .before .before .before .before .before .before .before .before)) (ready (c .before .before .before .before .before .before .before .before))) (underway-done _ _ _ (rw (fill-busy (v .left) (at l) (rw (v .options) (c .if3 .taken))) at (v .told)))
 
 create-pending-connection-requires : tie.Need-create-pending-connection-requires Inv-loop μ-loop
 create-pending-connection-requires c κs =
@@ -70,7 +70,7 @@ returns-3 : tie.Need-returns-3 Inv-loop μ-loop
 returns-3 c =
     let l = c .before .before .before in
     let v = l .loop .inv in
-    done-as (fill-ready (start (c .before .before .before .before .before .before .before .before .before)) (ready (c .before .before .before .before .before))) (told-done _ _ _ (rw (fill-enough (v .left) (at l) (rw (v .options) (c .if2 .left))) at (v .told)))
+    done-as (fill-ready (start (c .before .before .before .before .before .before .before .before .before)) (ready (c .before .before .before .before .before))) (underway-done _ _ _ (rw (fill-enough (v .left) (at l) (rw (v .options) (c .if2 .left))) at (v .told)))
 
 pub ensure-min-connections-spec : {M : Type 1} → statement M
 ensure-min-connections-spec =

@@ -2,51 +2,51 @@ use mathlib.Core.Path.{_≡_, sym, _∙_}
 use Prim.Native.Nat.{_<_}
 use native.Mathlib.Omega.{arith}
 use lib.ListN.{getD}
-use Rattle.definition.specs.Pool.{most}
+use Rattle.definition.specs.Pool.{slotCount}
 use Rattle.slots.specs.View.{SlotPool, poolOf}
-use Rattle.slots.specs.DoneLaws.{told-done}
+use Rattle.slots.specs.DoneLaws.{underway-done}
 use Rattle.slots.specs.Codes.{reasonOf}
 use Rattle.slots.specs.Parts.{available-at}
 use Rattle.slots.specs.Slots.{prune, removePerished}
-use Rattle.slots.specs.Kept.{perishedNoAt, perished-at, perished-number}
+use Rattle.slots.specs.ActLaws.{perishedNoAt, perished-at, perished-number}
 use Rattle.sweeps.proofs.Laws.{Sweeping, sweep-start, sweep-room, sweep-turn, prune-stops, prune-goes}
 use borrow.Author.Needs.{needs}
 use Rattle.sweeps.proofs.remove_perished_connections.Statement.{statement}
 use Rattle.sweeps.proofs.remove_perished_connections.Tie as tie
 
 abbrev Inv-loop : tie.InvT-loop
-Inv-loop cells₀ times₀ seats₀ waiters₀ out₀ n h₀ count₀ k₀ cells times seats waiters out h count k = Sweeping prune (h₀ .serial) k₀ count₀ (poolOf h₀ cells₀ times₀ seats₀ waiters₀) out₀ k count (poolOf h cells times seats waiters) out
+Inv-loop cells₀ times₀ seats₀ waiters₀ out₀ n h₀ count₀ k₀ numbers times states waiters out h count k = Sweeping prune (h₀ .serial) k₀ count₀ (poolOf h₀ cells₀ times₀ seats₀ waiters₀) out₀ k count (poolOf h numbers times states waiters) out
 
 abbrev μ-loop : tie.MeasureT-loop
-μ-loop cells₀ times₀ seats₀ waiters₀ out₀ n h₀ count₀ k₀ cells times seats waiters out h count k = k
+μ-loop cells₀ times₀ seats₀ waiters₀ out₀ n h₀ count₀ k₀ numbers times states waiters out h count k = k
 
 -- the pool that the parts make as a turn starts
 abbrev at : tie.At-loop Inv-loop μ-loop → SlotPool
-at l = poolOf (l .loop .h) (l .loop .cells) (l .loop .times) (l .loop .seats) (l .loop .waiters)
+at l = poolOf (l .loop .h) (l .loop .numbers) (l .loop .times) (l .loop .states) (l .loop .waiters)
 
 -- the slot at the front is one of the table
-front : (c : tie.After-wide Inv-loop μ-loop) → c .wide .result ≡ getD (at (c .before .before .before) .available) 0 0
+front : (c : tie.After-as-index Inv-loop μ-loop) → c .as-index .result ≡ getD (at (c .before .before .before) .available) 0 0
 front c =
     let l = c .before .before .before .loop in
-    c .wide .ensures ∙ sym (available-at (l .h) (l .cells) (l .times) (l .seats) (l .waiters) 0)
+    c .as-index .ensures ∙ sym (available-at (l .h) (l .numbers) (l .times) (l .states) (l .waiters) 0)
 
-inside : (c : tie.After-wide Inv-loop μ-loop) → c .wide .result < most
+inside : (c : tie.After-as-index Inv-loop μ-loop) → c .as-index .result < slotCount
 inside c = omega (arith, front c, c .before .before .before .loop .inv .safe .listed 0)
 
 -- why it is closed
-why : (c : tie.After-perished Inv-loop μ-loop) → c .perished .result ≡ perishedNoAt (at (c .before .before .before .before .before .before .before .before)) (c .before .before .before .before .before .wide .result)
+why : (c : tie.After-perished Inv-loop μ-loop) → c .perished .result ≡ perishedNoAt (at (c .before .before .before .before .before .before .before .before)) (c .before .before .before .before .before .as-index .result)
 why c =
     let l = c .before .before .before .before .before .before .before .before .loop in
-    c .perished .ensures ∙ perished-at (l .h) (l .cells) (l .times) (l .seats) (l .waiters) (l .inv .whole) (c .before .before .before .before .before .wide .result) (inside (c .before .before .before .before .before))
+    c .perished .ensures ∙ perished-at (l .h) (l .numbers) (l .times) (l .states) (l .waiters) (l .inv .whole) (c .before .before .before .before .before .as-index .result) (inside (c .before .before .before .before .before))
 
 loop-holds : tie.Need-loop-holds Inv-loop μ-loop
 loop-holds c = let r = c .before .pre in sweep-start prune _ _ _ (r .0) (r .1) (r .2)
 
-element-copy-out-wide : tie.Need-element-copy-out-wide Inv-loop μ-loop
-element-copy-out-wide c = search needs
+element-copy-out-as-index : tie.Need-element-copy-out-as-index Inv-loop μ-loop
+element-copy-out-as-index c = search needs
 
-wide-requires : tie.Need-wide-requires Inv-loop μ-loop
-wide-requires c κs = search needs
+as-index-requires : tie.Need-as-index-requires Inv-loop μ-loop
+as-index-requires c κs = search needs
 
 add-perished : tie.Need-add-perished Inv-loop μ-loop
 add-perished c = omega (arith, inside (c .before .before))
@@ -73,7 +73,7 @@ returns : tie.Need-returns Inv-loop μ-loop
 unfolding removePerished
 returns c =
     let l = c .before .before .before .before .before .before .before .before .before in
-    told-done _ _ _ (rw (prune-stops (at l) (c .before .before .before .before .before .before .wide .result) (c .before .perished .result) (front (c .before .before .before .before .before .before)) (why (c .before)) (l .loop .k) (c .if1 .taken)) at (l .loop .inv .told))
+    underway-done _ _ _ (rw (prune-stops (at l) (c .before .before .before .before .before .before .as-index .result) (c .before .perished .result) (front (c .before .before .before .before .before .before)) (why (c .before)) (l .loop .k) (c .if1 .taken)) at (l .loop .inv .told))
 
 pop-front-requires : tie.Need-pop-front-requires Inv-loop μ-loop
 pop-front-requires c κs =
@@ -84,7 +84,7 @@ close-connection-requires : tie.Need-close-connection-requires Inv-loop μ-loop
 close-connection-requires c κs =
     let l = c .before .before .before .before .before .before .before .before .before .before .before .before .before .before .before .before .before .before .before in
     let w = c .before .before .before .before .before .before .before .before .before .before .before .before .before .before .before .before in
-    let i = w .wide .result in
+    let i = w .as-index .result in
     let r = c .before .before .before .before .before .before .before .before .before .before .before .perished .result in
     let s = sweep-room prune (reasonOf r) i (at l) (l .loop .k) (l .loop .count) (l .loop .out) _ (l .loop .inv) (c .before .before .before .before .before .before .before .before .before .before .before .before .before .before .before .before .before .before .loop-test .taken) (front w) (c .before .before .before .before .before .pop-front .ensures) in
     let m = perished-number (at l) i r (why (c .before .before .before .before .before .before .before .before .before .before .before)) (c .before .before .before .before .before .before .before .before .before .before .if1 .left) in
@@ -100,7 +100,7 @@ loop-again : tie.Need-loop-again Inv-loop μ-loop
 loop-again c =
     let l = c .before .before .before .before .before .before .before .before .before .before .before .before .before .before .before .before .before .before .before .before .before .before .before in
     let w = c .before .before .before .before .before .before .before .before .before .before .before .before .before .before .before .before .before .before .before .before in
-    let i = w .wide .result in
+    let i = w .as-index .result in
     let r = c .before .before .before .before .before .before .before .before .before .before .before .before .before .before .before .perished .result in
     let goes = prune-goes (at l) i r (front w) (why (c .before .before .before .before .before .before .before .before .before .before .before .before .before .before .before)) (l .loop .k) (c .before .before .before .before .before .before .before .before .before .before .before .before .before .before .before .before .before .before .before .before .before .before .loop-test .taken) (c .before .before .before .before .before .before .before .before .before .before .before .before .before .before .if1 .left) in
     sweep-turn prune (reasonOf r) i (at l) (l .loop .k) (l .loop .count) (l .loop .out) _ _ (l .loop .inv) (c .before .before .before .before .before .before .before .before .before .before .before .before .before .before .before .before .before .before .before .before .before .before .loop-test .taken) goes (c .before .before .before .before .before .before .before .before .before .pop-front .ensures) (c .before .before .before .close-connection .ensures) (search needs)
@@ -113,7 +113,7 @@ unfolding removePerished prune
 returns-2 c =
     let v = c .before .loop .inv in
     let z : c .before .loop .k ≡ 0 = omega arith in
-    told-done _ _ _ (rw z at (v .told))
+    underway-done _ _ _ (rw z at (v .told))
 
 pub remove-perished-connections-spec : {M : Type 1} → statement M
 remove-perished-connections-spec =
@@ -122,8 +122,8 @@ remove-perished-connections-spec =
     Inv-loop
     μ-loop
     loop-holds
-    element-copy-out-wide
-    wide-requires
+    element-copy-out-as-index
+    as-index-requires
     add-perished
     mul-perished
     element-copy-out-perished

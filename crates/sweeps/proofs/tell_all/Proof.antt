@@ -10,13 +10,13 @@ use Rattle.sweeps.proofs.tell_all.Statement.{statement}
 use Rattle.sweeps.proofs.tell_all.Tie as tie
 
 abbrev Inv-loop : tie.InvT-loop
-Inv-loop head cells times seats waiters₀ out₀ n kind other w serial count₀ k₀ waiters out count k = Telling (replyOf kind other) serial count₀ (poolOf head cells times seats waiters₀) out₀ k count waiters out
+Inv-loop head numbers times states waiters₀ out₀ n kind other w serial count₀ k₀ waiters out count k = Telling (replyOf kind other) serial count₀ (poolOf head numbers times states waiters₀) out₀ k count waiters out
 
 abbrev μ-loop : tie.MeasureT-loop
-μ-loop head cells times seats waiters₀ out₀ n kind other w serial count₀ k₀ waiters out count k = w - k
+μ-loop head numbers times states waiters₀ out₀ n kind other w serial count₀ k₀ waiters out count k = w - k
 
 abbrev start : tie.Start Inv-loop μ-loop → SlotPool
-start c = (poolOf (c .args .head) (now (c .args .cells)) (now (c .args .times)) (now (c .args .seats)) (now (c .args .waiters)))
+start c = (poolOf (c .args .head) (now (c .args .numbers)) (now (c .args .times)) (now (c .args .states)) (now (c .args .waiters)))
 
 loop-holds : tie.Need-loop-holds Inv-loop μ-loop
 loop-holds c = tell-start _ _ _ (start (c .before)) _ (c .before .pre .3)

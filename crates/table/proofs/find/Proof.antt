@@ -1,16 +1,16 @@
 use Prim.Native.Nat.{_-_}
 use native.Mathlib.Omega.{arith}
-use Rattle.definition.specs.Pool.{most}
+use Rattle.definition.specs.Pool.{slotCount}
 use Rattle.table.proofs.Laws.{Searching, searching-start, searching-step, searching-hit, searching-end}
 use borrow.Author.Needs.{needs}
 use Rattle.table.proofs.find.Statement.{statement}
 use Rattle.table.proofs.find.Tie as tie
 
 abbrev Inv-loop : tie.InvT-loop
-Inv-loop cells id i₀ i = Searching (λ v. v) id most cells i
+Inv-loop numbers id i₀ i = Searching (λ v. v) id slotCount numbers i
 
 abbrev μ-loop : tie.MeasureT-loop
-μ-loop cells id i₀ i = most - i
+μ-loop numbers id i₀ i = slotCount - i
 
 loop-holds : tie.Need-loop-holds Inv-loop μ-loop
 loop-holds c = searching-start _ _ _ _

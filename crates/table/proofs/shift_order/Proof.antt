@@ -1,32 +1,32 @@
 use mathlib.Core.Path.{refl}
 use Prim.Native.Nat.{_-_}
 use native.Mathlib.Omega.{arith}
-use Rattle.definition.specs.Pool.{most}
+use Rattle.definition.specs.Pool.{slotCount}
 use Rattle.table.proofs.Laws.{Shifting, shifting-step, shifting-end}
 use borrow.Author.Needs.{needs}
 use Rattle.table.proofs.shift_order.Statement.{statement}
 use Rattle.table.proofs.shift_order.Tie as tie
 
 abbrev Inv-loop : tie.InvT-loop
-Inv-loop seats₀ n i₀ seats i = Shifting most n seats₀ seats i
+Inv-loop seats₀ n i₀ states i = Shifting slotCount n seats₀ states i
 
 abbrev μ-loop : tie.MeasureT-loop
-μ-loop seats₀ n i₀ seats i = n - i
+μ-loop seats₀ n i₀ states i = n - i
 
 loop-holds : tie.Need-loop-holds Inv-loop μ-loop
 loop-holds c = record { some = omega arith; low = omega arith; long = omega arith; front = refl; back = refl }
 
-add-seats : tie.Need-add-seats Inv-loop μ-loop
-add-seats c = search needs
+add-states : tie.Need-add-states Inv-loop μ-loop
+add-states c = search needs
 
-element-copy-out-seats : tie.Need-element-copy-out-seats Inv-loop μ-loop
-element-copy-out-seats c = search needs
+element-copy-out-states : tie.Need-element-copy-out-states Inv-loop μ-loop
+element-copy-out-states c = search needs
 
-add-seats-2 : tie.Need-add-seats-2 Inv-loop μ-loop
-add-seats-2 c = search needs
+add-states-2 : tie.Need-add-states-2 Inv-loop μ-loop
+add-states-2 c = search needs
 
-element-write-seats : tie.Need-element-write-seats Inv-loop μ-loop
-element-write-seats c = search needs
+element-write-states : tie.Need-element-write-states Inv-loop μ-loop
+element-write-states c = search needs
 
 add-i : tie.Need-add-i Inv-loop μ-loop
 add-i c = search needs
@@ -37,11 +37,11 @@ loop-less c = search needs
 loop-again : tie.Need-loop-again Inv-loop μ-loop
 loop-again c = shifting-step _ _ _ _ _ _ _ (omega arith) (omega arith) (c .before .before .loop .inv) (c .before .loop-test .taken)
 
-add-seats-3 : tie.Need-add-seats-3 Inv-loop μ-loop
-add-seats-3 c = search needs
+add-states-3 : tie.Need-add-states-3 Inv-loop μ-loop
+add-states-3 c = search needs
 
-element-write-seats-2 : tie.Need-element-write-seats-2 Inv-loop μ-loop
-element-write-seats-2 c = search needs
+element-write-states-2 : tie.Need-element-write-states-2 Inv-loop μ-loop
+element-write-states-2 c = search needs
 
 returns : tie.Need-returns Inv-loop μ-loop
 returns c = shifting-end _ _ _ _ _ _ (omega arith) (c .before .loop .inv) (c .loop-test .left)
@@ -53,13 +53,13 @@ shift-order-spec =
     Inv-loop
     μ-loop
     loop-holds
-    add-seats
-    element-copy-out-seats
-    add-seats-2
-    element-write-seats
+    add-states
+    element-copy-out-states
+    add-states-2
+    element-write-states
     add-i
     loop-less
     loop-again
-    add-seats-3
-    element-write-seats-2
+    add-states-3
+    element-write-states-2
     returns)

@@ -4,25 +4,25 @@ use Rattle.text.proofs.u32_at.Statement.{statement}
 use Rattle.text.proofs.u32_at.Tie as tie
 use Rattle.text.proofs.u32_at.Reads as reads
 use Rattle.text.proofs.u32_at.Lts as lts
-use Rattle.text.proofs.wide.Reads as wide-reads
+use Rattle.text.proofs.as_u32.Reads as as-u32-reads
 
-shared-slice-read-wide : tie.Need-shared-slice-read-wide
-shared-slice-read-wide c = search needs
+shared-slice-read-as-u32 : tie.Need-shared-slice-read-as-u32
+shared-slice-read-as-u32 c = search needs
 
-wide-requires : tie.Need-wide-requires
-wide-requires c κs = search needs
+as-u32-requires : tie.Need-as-u32-requires
+as-u32-requires c κs = search needs
 
 mul-result : tie.Need-mul-result
 mul-result c = search needs
 
-add-wide : tie.Need-add-wide
-add-wide c = search needs
+add-as-u32 : tie.Need-add-as-u32
+add-as-u32 c = search needs
 
-shared-slice-read-wide-2 : tie.Need-shared-slice-read-wide-2
-shared-slice-read-wide-2 c = search needs
+shared-slice-read-as-u32-2 : tie.Need-shared-slice-read-as-u32-2
+shared-slice-read-as-u32-2 c = search needs
 
-wide-requires-2 : tie.Need-wide-requires-2
-wide-requires-2 c κs = search needs
+as-u32-requires-2 : tie.Need-as-u32-requires-2
+as-u32-requires-2 c κs = search needs
 
 mul-result-2 : tie.Need-mul-result-2
 mul-result-2 c = search needs
@@ -30,14 +30,14 @@ mul-result-2 c = search needs
 add-result : tie.Need-add-result
 add-result c = search needs
 
-add-wide-2 : tie.Need-add-wide-2
-add-wide-2 c = search needs
+add-as-u32-2 : tie.Need-add-as-u32-2
+add-as-u32-2 c = search needs
 
-shared-slice-read-wide-3 : tie.Need-shared-slice-read-wide-3
-shared-slice-read-wide-3 c = search needs
+shared-slice-read-as-u32-3 : tie.Need-shared-slice-read-as-u32-3
+shared-slice-read-as-u32-3 c = search needs
 
-wide-requires-3 : tie.Need-wide-requires-3
-wide-requires-3 c κs = search needs
+as-u32-requires-3 : tie.Need-as-u32-requires-3
+as-u32-requires-3 c κs = search needs
 
 mul-result-3 : tie.Need-mul-result-3
 mul-result-3 c = search needs
@@ -45,14 +45,14 @@ mul-result-3 c = search needs
 add-result-2 : tie.Need-add-result-2
 add-result-2 c = search needs
 
-add-wide-3 : tie.Need-add-wide-3
-add-wide-3 c = search needs
+add-as-u32-3 : tie.Need-add-as-u32-3
+add-as-u32-3 c = search needs
 
-shared-slice-read-wide-4 : tie.Need-shared-slice-read-wide-4
-shared-slice-read-wide-4 c = search needs
+shared-slice-read-as-u32-4 : tie.Need-shared-slice-read-as-u32-4
+shared-slice-read-as-u32-4 c = search needs
 
-wide-requires-4 : tie.Need-wide-requires-4
-wide-requires-4 c κs = search needs
+as-u32-requires-4 : tie.Need-as-u32-requires-4
+as-u32-requires-4 c κs = search needs
 
 add-result-3 : tie.Need-add-result-3
 add-result-3 c = search needs
@@ -65,21 +65,21 @@ pub u32-at-spec : {M : Type 1} → statement M
 u32-at-spec =
     tie.close
     (tie.spec
-    shared-slice-read-wide
-    wide-requires
+    shared-slice-read-as-u32
+    as-u32-requires
     mul-result
-    add-wide
-    shared-slice-read-wide-2
-    wide-requires-2
+    add-as-u32
+    shared-slice-read-as-u32-2
+    as-u32-requires-2
     mul-result-2
     add-result
-    add-wide-2
-    shared-slice-read-wide-3
-    wide-requires-3
+    add-as-u32-2
+    shared-slice-read-as-u32-3
+    as-u32-requires-3
     mul-result-3
     add-result-2
-    add-wide-3
-    shared-slice-read-wide-4
-    wide-requires-4
+    add-as-u32-3
+    shared-slice-read-as-u32-4
+    as-u32-requires-4
     add-result-3
     returns)

@@ -7,7 +7,7 @@ use Rattle.definition.specs.Steps.{_>>_}
 use Rattle.definition.specs.declared.PoolState.the-variants.{Paused}
 use Rattle.slots.specs.View.{poolOf}
 use Rattle.slots.specs.DoneLaws.{done-then, done-quiet}
-use Rattle.slots.specs.Slots.{interrupted, clearedReady, mode, clear, withMode}
+use Rattle.slots.specs.Slots.{interrupted, clearedReady, enter, clear, withStatus}
 use borrow.Author.Needs.{needs}
 use Rattle.upkeep.proofs.clear.Statement.{statement}
 use Rattle.upkeep.proofs.clear.Tie as tie
@@ -38,13 +38,13 @@ same-length : tie.Need-same-length
 same-length c = search needs
 
 returns : tie.Need-returns
-unfolding clear mode
+unfolding clear enter
 returns c =
     let a = c .before .before .before .before .before .before .before .before .before .before .before .before .before .before .before .before .args in
-    let p = (poolOf (a .head) (now (a .cells)) (now (a .times)) (now (a .seats)) (now (a .waiters))) in
-    done-then (interrupted (a .timeout)) (clearedReady (a .timeout) (a .cause) >> mode (Paused (a .cause)) (a .head .mode .generation + 1)) p p _
+    let p = (poolOf (a .head) (now (a .numbers)) (now (a .times)) (now (a .states)) (now (a .waiters))) in
+    done-then (interrupted (a .timeout)) (clearedReady (a .timeout) (a .cause) >> enter (Paused (a .cause)) (a .head .status .generation + 1)) p p _
     (interrupted-done (a .timeout) p (c .before .before .before .before .before .before .before .before .before .before .before .before .interrupt .ensures))
-    (done-then (clearedReady (a .timeout) (a .cause)) (mode (Paused (a .cause)) (a .head .mode .generation + 1)) p _ _ (c .before .before .before .before .clear-ready .ensures)
+    (done-then (clearedReady (a .timeout) (a .cause)) (enter (Paused (a .cause)) (a .head .status .generation + 1)) p _ _ (c .before .before .before .before .clear-ready .ensures)
     (done-quiet _ refl (rw (c .next-generation .ensures) refl)))
 
 pub clear-spec : {M : Type 1} → statement M

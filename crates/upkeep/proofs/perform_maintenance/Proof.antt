@@ -32,7 +32,7 @@ ensure-min-connections-requires c κs =
     let st = r .0 .stands in
     let d = c .before .before .before .before .before .before .before .before .remove-perished-connections .ensures in
     let z = subst (λ (x : SlotPool). Whole x × CanFill x) (sym (d .pool)) (can-fill-after st (r .1)) in
-    let f = prune-few (a .head .«available_count») (poolOf (a .head) (now (a .cells)) (now (a .times)) (now (a .seats)) (now (a .waiters))) .records in
+    let f = prune-few (a .head .«available_count») (poolOf (a .head) (now (a .numbers)) (now (a .times)) (now (a .states)) (now (a .waiters))) .records in
     (z .0, z .1, (omega (arith, d .count, f, st .table .fits, r .2), omega (arith, d .count, f, st .table .fits)))
 
 same-length : tie.Need-same-length
@@ -43,8 +43,8 @@ unfolding maintenance removePerished
 returns c =
     let a = c .before .before .before .before .before .before .before .before .before .before .before .before .before .before .before .before .before .before .args in
     let d = c .before .before .before .before .before .before .before .before .before .before .before .remove-perished-connections .ensures in
-    let l : Leaves false 0 (poolOf (a .head) (now (a .cells)) (now (a .times)) (now (a .seats)) (now (a .waiters))) (prune (a .head .«available_count») (poolOf (a .head) (now (a .cells)) (now (a .times)) (now (a .seats)) (now (a .waiters)))) = prune-leaves (a .head .«available_count») (poolOf (a .head) (now (a .cells)) (now (a .times)) (now (a .seats)) (now (a .waiters))) in
-    done-then removePerished ensureMinConnections (poolOf (a .head) (now (a .cells)) (now (a .times)) (now (a .seats)) (now (a .waiters))) _ _ d (done-serial (ap (λ (x : SlotPool). x .serial) (d .pool) ∙ l .serial) (c .before .before .ensure-min-connections .ensures))
+    let l : Leaves false 0 (poolOf (a .head) (now (a .numbers)) (now (a .times)) (now (a .states)) (now (a .waiters))) (prune (a .head .«available_count») (poolOf (a .head) (now (a .numbers)) (now (a .times)) (now (a .states)) (now (a .waiters)))) = prune-leaves (a .head .«available_count») (poolOf (a .head) (now (a .numbers)) (now (a .times)) (now (a .states)) (now (a .waiters))) in
+    done-then removePerished ensureMinConnections (poolOf (a .head) (now (a .numbers)) (now (a .times)) (now (a .states)) (now (a .waiters))) _ _ d (done-serial (ap (λ (x : SlotPool). x .serial) (d .pool) ∙ l .serial) (c .before .before .ensure-min-connections .ensures))
 
 pub perform-maintenance-spec : {M : Type 1} → statement M
 perform-maintenance-spec =

@@ -10,7 +10,7 @@ use Rattle.definition.specs.declared.PoolState.the-variants.{Closed}
 use Rattle.slots.specs.View.{SlotPool, poolOf, Whole, after}
 use Rattle.slots.specs.Needs.{CanTell}
 use Rattle.slots.specs.DoneLaws.{done-then, done-emit, done-quiet, done-serial}
-use Rattle.slots.specs.Slots.{shut, closeFront, tellAll, mode}
+use Rattle.slots.specs.Slots.{shut, closeFront, tellAll, enter}
 use Rattle.refinement.specs.Needs.{whole, can-prune, can-tell-after}
 use Rattle.refinement.specs.Few.{closeFront-few}
 use borrow.Author.Needs.{needs}
@@ -35,7 +35,7 @@ tell-all-requires c κs =
     let st = r .0 .stands in
     let d = c .before .before .before .before .before .before .before .before .close-available .ensures in
     let z = tells st _ (d .pool) in
-    let f = closeFront-few (a .head .«available_count») (poolOf (a .head) (now (a .cells)) (now (a .times)) (now (a .seats)) (now (a .waiters))) .records in
+    let f = closeFront-few (a .head .«available_count») (poolOf (a .head) (now (a .numbers)) (now (a .times)) (now (a .states)) (now (a .waiters))) .records in
     let w = z .1 .fits in
     (z .0, z .1, record { kinds = (omega arith, omega arith); zero = (λ _. refl, λ _. refl) }, (omega (arith, d .count, f, w, st .table .fits, r .1), omega (arith, d .count, f, w, st .table .fits)))
 
@@ -47,7 +47,7 @@ emit-requires c κs =
     let st = r .0 .stands in
     let d = c .before .before .before .before .before .before .before .before .before .before .before .before .before .close-available .ensures in
     let d2 = c .before .before .before .before .tell-all .ensures in
-    let f = closeFront-few (a .head .«available_count») (poolOf (a .head) (now (a .cells)) (now (a .times)) (now (a .seats)) (now (a .waiters))) .records in
+    let f = closeFront-few (a .head .«available_count») (poolOf (a .head) (now (a .numbers)) (now (a .times)) (now (a .states)) (now (a .waiters))) .records in
     let g = told-few _ _ d2 in
     let w = tells st _ (d .pool) .1 .fits in
     omega (arith, d .count, f, g, w, st .table .fits, r .1)
@@ -60,7 +60,7 @@ add-t30 c =
     let st = r .0 .stands in
     let d = c .before .before .before .before .before .before .before .before .before .before .before .before .before .before .before .before .close-available .ensures in
     let d2 = c .before .before .before .before .before .before .before .tell-all .ensures in
-    let f = closeFront-few (a .head .«available_count») (poolOf (a .head) (now (a .cells)) (now (a .times)) (now (a .seats)) (now (a .waiters))) .records in
+    let f = closeFront-few (a .head .«available_count») (poolOf (a .head) (now (a .numbers)) (now (a .times)) (now (a .states)) (now (a .waiters))) .records in
     let g = told-few _ _ d2 in
     let w = tells st _ (d .pool) .1 .fits in
     omega (arith, d .count, f, g, w, st .table .fits)
@@ -69,19 +69,19 @@ same-length : tie.Need-same-length
 same-length c = search needs
 
 returns : tie.Need-returns
-unfolding shut if_then_else_ mode
+unfolding shut if_then_else_ enter
 returns c =
     let a = c .before .before .before .before .before .before .before .before .before .before .before .before .before .before .before .before .before .before .before .before .before .before .before .before .args in
-    let p = (poolOf (a .head) (now (a .cells)) (now (a .times)) (now (a .seats)) (now (a .waiters))) in
+    let p = (poolOf (a .head) (now (a .numbers)) (now (a .times)) (now (a .states)) (now (a .waiters))) in
     let n = a .head .«available_count» in
-    let g = a .head .mode .generation in
+    let g = a .head .status .generation in
     let d = c .before .before .before .before .before .before .before .before .before .before .before .before .before .before .before .before .close-available .ensures in
     let d2 = c .before .before .before .before .before .before .before .tell-all .ensures in
     let e : c .before .before .before .before .before .before .before .before .before .before .before .before .before .before .before .before .close-available .result .head .serial ≡ a .head .serial = ap (λ (x : SlotPool). x .serial) (d .pool) ∙ closeFront-serial n p in
     let e2 : c .before .before .before .before .before .before .before .tell-all .result .head .serial ≡ a .head .serial = told-serial _ _ _ (d2 .pool) ∙ e in
-    done-then (closeFront n) (tellAll Gone >> emit PoolShut >> mode Closed g) p _ _ d
-    (done-then (tellAll Gone) (emit PoolShut >> mode Closed g) _ _ _ (done-serial e d2)
-    (done-then (emit PoolShut) (mode Closed g) _ _ _ (done-emit PoolShut _ refl (rw e2 at (c .before .before .emit .ensures))) (done-quiet _ refl refl)))
+    done-then (closeFront n) (tellAll Gone >> emit PoolShut >> enter Closed g) p _ _ d
+    (done-then (tellAll Gone) (emit PoolShut >> enter Closed g) _ _ _ (done-serial e d2)
+    (done-then (emit PoolShut) (enter Closed g) _ _ _ (done-emit PoolShut _ refl (rw e2 at (c .before .before .emit .ensures))) (done-quiet _ refl refl)))
 
 pub shut-spec : {M : Type 1} → statement M
 shut-spec =

@@ -3,7 +3,7 @@ use Prim.Native.Nat.{ℕ, _≤_, _<_}
 use native.Mathlib.Omega.{arith}
 use denote.Ref.{now}
 use lib.ListN.{length, getD, take, drop, List·getD-eq-default}
-use Rattle.definition.specs.Pool.{most}
+use Rattle.definition.specs.Pool.{slotCount}
 use Rattle.slots.specs.Order.{place}
 use Rattle.slots.specs.OrderLaws.{place-front}
 use Rattle.slots.specs.View.{Slot, rows}
@@ -17,8 +17,8 @@ use Rattle.verdict.proofs.look.Reads as reads
 use Rattle.verdict.proofs.look.Lts as lts
 use Rattle.table.proofs.find.Reads as find-reads
 
-found : (c : tie.After-find) → c .find .result ≡ place (c .before .args .id) most (take most (now (c .before .args .cells)))
-found c = c .find .ensures ∙ sym (place-front _ _ most most _ (omega arith))
+found : (c : tie.After-find) → c .find .result ≡ place (c .before .args .id) slotCount (take slotCount (now (c .before .args .numbers)))
+found c = c .find .ensures ∙ sym (place-front _ _ slotCount slotCount _ (omega arith))
 
 find-requires : tie.Need-find-requires
 find-requires c κs = search needs
@@ -36,11 +36,11 @@ returns : tie.Need-returns
 returns c =
     let a = c .before .before .before .before .args in
     let i = c .before .before .before .find .result in
-    let low : i < most = c .before .before .if1 .taken in
-    let r = row-at (drop most (now (a .cells))) (now (a .times)) (take most (now (a .seats))) i (omega (arith, c .before .before .before .before .pre)) in
+    let low : i < slotCount = c .before .before .if1 .taken in
+    let r = row-at (drop slotCount (now (a .numbers))) (now (a .times)) (take slotCount (now (a .states))) i (omega (arith, c .before .before .before .before .pre)) in
     record {
       at = found (c .before .before .before);
-      state = sym (ap (λ (s : Slot). s .state) r ∙ getD-take most (now (a .seats)) i 0 low);
+      state = sym (ap (λ (s : Slot). s .state) r ∙ getD-take slotCount (now (a .states)) i 0 low);
       time = sym (ap (λ (s : Slot). s .time) r);
     }
 
@@ -48,7 +48,7 @@ returns-2 : tie.Need-returns-2
 returns-2 c =
     let a = c .before .before .args in
     let i = c .before .find .result in
-    let e = List·getD-eq-default (rows (drop most (now (a .cells))) (now (a .times)) (take most (now (a .seats)))) vacant {n = i} (omega (arith, c .before .before .pre, c .if1 .left)) in
+    let e = List·getD-eq-default (rows (drop slotCount (now (a .numbers))) (now (a .times)) (take slotCount (now (a .states)))) vacant {n = i} (omega (arith, c .before .before .pre, c .if1 .left)) in
     record {
       at = found (c .before);
       state = sym (ap (λ (s : Slot). s .state) e);

@@ -1,0 +1,146 @@
+-- What the acts leave of what the next act asks for, and what the number of the idle test tells.
+use mathlib.Core.Path.{_≡_, refl, sym, ap, _∙_}
+use mathlib.Core.Bool.{Bool, true, false, _||_}
+use mathlib.Core.List.{List, [], _∷_}
+use Prim.Native.Nat.{ℕ, zero, suc, _+_, _≤_, _<_}
+use native.Mathlib.Omega.{arith}
+use lib.ListN.{length, getD, set, length-set}
+use Rattle.definition.specs.Words.{if_then_else_, _=?_}
+use Rattle.definition.specs.Pool.{slotCount, idleFor}
+use Rattle.definition.specs.Steps.{_>>_}
+use Rattle.definition.specs.declared.ClosedReason.{ClosedReason}
+use Rattle.definition.specs.declared.ClosedReason.the-variants.{Idle, Stale}
+use Rattle.slots.specs.Order.{placeBy, place}
+use Rattle.slots.specs.OrderLaws.{shifted-below, length-shifted}
+use Rattle.slots.specs.View.{SlotPool, Slot, Whole, poolOf}
+use Rattle.slots.specs.Parts.{slot-at}
+use Rattle.slots.specs.Codes.{reasonOf, perishedNo}
+use Rattle.slots.specs.CodeLaws.{perished-no}
+use Rattle.slots.specs.Needs.{taken, CanPrune}
+use Rattle.slots.specs.Slots.{slotAt, staleAt, perishedAt, closeAt, popFront, createPendingConnection, zeroed}
+use Rattle.slots.specs.declared.Head.{Head}
+
+-- ── Ids taken ──
+
+if-most : (b : Bool) (n : ℕ) → (if b then 0 else 1) + n ≤ n + 1
+unfolding if_then_else_
+if-most true n = omega arith
+if-most false n = omega arith
+
+-- a write takes one id more, at most
+pub taken-set : (l : List ℕ) (i v : ℕ) → taken (set l i v) ≤ taken l + 1
+unfolding taken
+taken-set [] i v = omega arith
+taken-set (x ∷ l) zero v = omega (arith, if-most (v =? 0) (taken l))
+taken-set (x ∷ l) (suc i) v = omega (arith, taken-set l i v)
+
+place-if : (b : Bool) (n t x : ℕ) → (if b then 0 else 1) + t < suc n → (t < n → x < n) → (if b then 0 else suc x) < suc n
+unfolding if_then_else_
+place-if true n t x h f = omega arith
+place-if false n t x h f = omega (arith, f (omega arith))
+
+-- where not all are taken, there is a vacant slot
+pub vacant-place : (n : ℕ) (l : List ℕ) → length l ≡ n → taken l < n → place 0 n l < n
+unfolding taken placeBy
+vacant-place zero l e h = absurd (omega arith)
+vacant-place (suc n) [] e h = absurd (omega arith)
+vacant-place (suc n) (x ∷ l) e h = place-if (x =? 0) n (taken l) _ h (vacant-place n l (omega arith))
+
+-- ── Cells cleared ──
+
+-- the first k are 0: the next is as it was; and one more
+pub zeroed-at : (k : ℕ) (l : List ℕ) → getD (zeroed k l) k 0 ≡ getD l k 0
+unfolding zeroed
+zeroed-at zero l = refl
+zeroed-at (suc k) [] = refl
+zeroed-at (suc k) (x ∷ l) = zeroed-at k l
+
+pub zeroed-more : (k : ℕ) (l : List ℕ) → set (zeroed k l) k 0 ≡ zeroed (suc k) l
+unfolding zeroed
+zeroed-more zero [] = refl
+zeroed-more zero (x ∷ l) = refl
+zeroed-more (suc k) [] = refl
+zeroed-more (suc k) (x ∷ l) = ap (λ (r : List ℕ). 0 ∷ r) (zeroed-more k l)
+
+-- ── The idle test ──
+
+stale-or-idle : (b c : Bool) (r : ℕ) → r ≡ (if b || c then (if b then 2 else 1) else 0) → (r ≡ 0 → ⊥)
+    → (b || c ≡ true) × ((if b then Stale else Idle) ≡ reasonOf r) × (0 < r) × (r ≤ 5)
+unfolding if_then_else_
+stale-or-idle true c r e n = (refl, rw e, omega arith, omega arith)
+stale-or-idle false true r e n = (refl, rw e, omega arith, omega arith)
+stale-or-idle false false r e n = absurd (n e)
+
+healthy : (b c : Bool) → _≡_ {A = ℕ} (if b || c then (if b then 2 else 1) else 0) 0 → b || c ≡ false
+unfolding if_then_else_
+healthy true c e = absurd (omega arith)
+healthy false true e = absurd (omega arith)
+healthy false false e = refl
+
+-- what `perished` gives of slot i
+abbrev pub perishedNoAt : SlotPool → ℕ → ℕ
+perishedNoAt p i = perishedNo (p .generation) (p .options .idle) (p .clock) (slotAt p i .generation) (slotAt p i .time)
+
+pub perished-at : (h : Head) (cs ts ss ws : List ℕ) → Whole (poolOf h cs ts ss ws) → (i : ℕ) → i < slotCount
+    → perishedNo (h .status .generation) (h .options .idle) (h .clock) (getD cs (slotCount + i) 0) (getD ts i 0) ≡ perishedNoAt (poolOf h cs ts ss ws) i
+perished-at h cs ts ss ws w i low =
+    ap (λ (x : Slot). perishedNo (h .status .generation) (h .options .idle) (h .clock) (x .generation) (x .time)) (sym (slot-at h cs ts ss ws w i low))
+
+-- what follows from the number that `perished` gave
+module _ (p : SlotPool) (i r : ℕ) (e : r ≡ perishedNoAt p i) where
+  abbrev idleAt : Bool
+  idleAt = idleFor (p .options .idle) (slotAt p i .time) (p .clock)
+
+  pub is-healthy : r ≡ 0 → perishedAt p i ≡ false
+  is-healthy z = healthy (staleAt p i) idleAt (sym (perished-no p i) ∙ sym e ∙ z)
+
+  pub is-perished : (r ≡ 0 → ⊥) → perishedAt p i ≡ true
+  is-perished n = stale-or-idle (staleAt p i) idleAt r (e ∙ perished-no p i) n .0
+
+  pub perished-reason : (r ≡ 0 → ⊥) → (if staleAt p i then Stale else Idle) ≡ reasonOf r
+  perished-reason n = stale-or-idle (staleAt p i) idleAt r (e ∙ perished-no p i) n .1
+
+  pub perished-number : (r ≡ 0 → ⊥) → (0 < r) × (r ≤ 5)
+  perished-number n = let h = stale-or-idle (staleAt p i) idleAt r (e ∙ perished-no p i) n in (h .2, h .3)
+
+-- ── The pool after an act ──
+
+module _ (p : SlotPool) where
+  pub popped-whole : Whole p → CanPrune p → 0 < p .availables → Whole (popFront p .pool)
+  unfolding popFront
+  popped-whole w s z = record {
+    ids = w .ids;
+    slots = w .slots;
+    available = length-shifted (p .availables) (p .available) z (omega (arith, w .available, s .fits)) ∙ w .available;
+    waiters = w .waiters;
+  }
+
+  pub popped-prune : CanPrune p → 0 < p .availables → CanPrune (popFront p .pool)
+  unfolding popFront
+  popped-prune s z = record {
+    counts = omega (arith, s .counts);
+    fits = omega (arith, s .fits);
+    listed = shifted-below slotCount (p .availables) (p .available) z (s .listed);
+  }
+
+  pub closed-whole : (reason : ClosedReason) (i : ℕ) → Whole p → Whole (closeAt reason i p .pool)
+  unfolding closeAt _>>_
+  closed-whole reason i w = record {
+    ids = length-set (p .ids) i 0 ∙ w .ids;
+    slots = length-set (p .slots) i _ ∙ w .slots;
+    available = w .available;
+    waiters = w .waiters;
+  }
+
+  pub closed-prune : (reason : ClosedReason) (i : ℕ) → CanPrune p → p .availables < p .total → CanPrune (closeAt reason i p .pool)
+  unfolding closeAt _>>_
+  closed-prune reason i s h = record { counts = omega arith; fits = s .fits; listed = s .listed }
+
+  pub created-whole : (state : ℕ) → Whole p → Whole (createPendingConnection state p .pool)
+  unfolding createPendingConnection _>>_
+  created-whole state w = record {
+    ids = length-set (p .ids) _ _ ∙ w .ids;
+    slots = length-set (p .slots) _ _ ∙ w .slots;
+    available = w .available;
+    waiters = w .waiters;
+  }

@@ -14,7 +14,7 @@ ghost use Rattle.slots.specs.Needs.{CanCreate, CanClose, CanShelve, CanPrune};
 ghost use Rattle.slots.specs.Slots.{closeAt, shelve, setStateAt, popFront, popBack, createPendingConnection};
 use slots::Numbers;
 use slots::Head;
-use slots::SLOTS;
+use definition::SLOTS;
 use slots::States;
 use slots::Times;
 use slots::Waiters;

@@ -8,7 +8,7 @@ ghost use Rattle.slots.specs.Slots.{establish, takeFrom, lend, checkOut, canSer
 use acts::Progress;
 use slots::Numbers;
 use slots::Head;
-use slots::SLOTS;
+use definition::SLOTS;
 use slots::States;
 use slots::Times;
 use slots::Waiters;

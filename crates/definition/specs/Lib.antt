@@ -13,3 +13,4 @@ pub mod RoundTrip
 pub mod Cases
 pub mod Log
 pub mod Sentences
+pub mod RecordBound

@@ -8,7 +8,7 @@ use Rattle.definition.specs.Types.{Options, PoolState, New, Paused, Read
 
 -- ── Options ────────────────────────────────────────────────────────────────────────────────────────────────────────────
 
--- the most connections that a pool may be given, and pending ones; the queue's length
+-- the most connections that a pool may be given, and pending ones; the queue's length: other numbers follow from these two
 abbrev pub slotCount : ℕ
 slotCount = 64
 
@@ -33,7 +33,7 @@ withDefaults o = record {
   idle = o .idle;
 }
 
--- maximum 1 to 64, minimum 0 to maximum, max connecting 1 to 64
+-- maximum 1 to slotCount, minimum 0 to maximum, max connecting 1 to slotCount
 unfoldable pub inRange : Options → Bool
 inRange o =
     1 ≤? o .maximum && o .maximum ≤? slotCount && o .minimum ≤? o .maximum && 1 ≤? o .connecting && o .connecting ≤? slotCount

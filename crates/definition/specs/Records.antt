@@ -1,7 +1,7 @@
 -- What a pool says: records of what happened, and replies to requests.
 use mathlib.Core.Bool.{Bool, true, false}
 use mathlib.Core.List.{List}
-use Prim.Native.Nat.{ℕ}
+use Prim.Native.Nat.{ℕ, _+_, _*_}
 use Rattle.definition.specs.Words.{if_then_else_}
 use Rattle.definition.specs.Pool.{Waiter}
 use Rattle.definition.specs.Types.{ClosedReason, Idle, Stale, Error, Dropped, PoolClosed}
@@ -33,6 +33,13 @@ reasonNo Stale = 2
 reasonNo Error = 3
 reasonNo Dropped = 4
 reasonNo PoolClosed = 5
+
+-- a record in bytes, and as a line of the log: two digits a byte, and a newline
+abbrev pub recordLength : ℕ
+recordLength = 16
+
+abbrev pub logLineLength : ℕ
+logLineLength = 2 * recordLength + 1
 
 -- the fields of a record beside its serial
 pub record Fields : Type 0 where

@@ -2,10 +2,11 @@
 use mathlib.Core.Bool.{Bool, true, false, not, _&&_, _||_}
 use mathlib.Core.List.{List, [], _∷_}
 use mathlib.Core.Option.{Option, none, some}
-use Prim.Native.Nat.{ℕ, _+_}
+use Prim.Native.Nat.{ℕ, zero, suc, _+_, _-_, _*_, _/_}
 use lib.ListN.{length}
 use Rattle.definition.specs.Words.{if_then_else_, _<?_, _≤?_, _=?_, any?}
-use Rattle.definition.specs.Pool.{Pool, fresh, queueLength, withDefaults, inRange, withClock, withWritten, isClosed, has, hasIn, find, unpinned, pinned, pinnedInUse, forRequest, inBackground}
+use Rattle.definition.specs.Pool.{Pool, fresh, slotCount, queueLength, withDefaults, inRange, withClock, withWritten, isClosed, has, hasIn, find, unpinned, pinned, pinnedInUse, forRequest, inBackground}
+use Rattle.definition.specs.Records.{recordLength}
 use Rattle.definition.specs.Steps.{Out, Act, nothing, _>>_, event, kindNo, _to_holds_}
 use Rattle.definition.specs.Types.{Options, Event, CheckOut, WarmPool, Abandon, CheckIn, Clear, MarkAsReady, Succeeded, SucceededForPool, Failed, Maintenance, FillPool, Pin, ReturnToPinner, TakeFromPinner, Close, Frame, Good, Bad, Refusal, OutputShort, Malformed, ClockBack, AfterClose, NumbersSpent, OldRequest, QueueFull, WrongState, WrongTime, OptionsOutOfRange, NotWaiting, AlreadyPinned}
 
@@ -33,12 +34,28 @@ unfoldable pub first : List Test → Option Refusal
 first [] = none
 first ((r if b) ∷ ts) = if b then some r else first ts
 
--- the room that any event's records fit in: 512 of 16 bytes
-abbrev pub enoughRoom : ℕ
-enoughRoom = 8192
+abbrev pick : Bool → ℕ → ℕ → ℕ
+pick true a b = a
+pick false a b = b
 
+-- the first power of two, from k on, that is not below n; at most f doublings
+abbrev pub powerFrom : (f k n : ℕ) → ℕ
+powerFrom zero k n = k
+powerFrom (suc f) k n = pick (n ≤? k) k (powerFrom f (2 * k) n)
+
+-- the room that any event's records fit in: a close writes most, one for each connection and each waiter, and one more
+abbrev pub enoughRoom : ℕ
+enoughRoom = powerFrom 32 1 (recordLength * (slotCount + queueLength + 1))
+
+abbrev pub roomRecords : ℕ
+roomRecords = enoughRoom / recordLength
+
+-- an event may take ids while the next one is at most this, and then takes at most one for each slot and one more
 abbrev pub lastNextId : ℕ
-lastNextId = 4294967168
+lastNextId = 4294967296 - 2 * slotCount
+
+abbrev pub mostNextId : ℕ
+mostNextId = lastNextId + slotCount + 1
 
 abbrev pub lastGeneration : ℕ
 lastGeneration = 4294967295
@@ -80,7 +97,7 @@ kindTests p Close now = []
 abbrev pub takenAfterClose : Event → Bool
 takenAfterClose e = kindNo e =? 4 || 7 to 9 holds kindNo e || 12 to 14 holds kindNo e
 
--- 5: pool open, kind not 15, and next connection id above 4,294,967,168; or kind 5 at generation 4,294,967,295
+-- 5: pool open, kind not 15, and next connection id above lastNextId; or kind 5 at the last generation
 abbrev pub numbersSpent : Pool → Event → Bool
 numbersSpent p e =
     not (isClosed (p .state)) && not (kindNo e =? 15) && lastNextId <? p .nextId || kindNo e =? 5 && p .generation =? lastGeneration

@@ -1,4 +1,41 @@
-// The types that the definition and the code share: declared here once, seen by the definition in specs/ as they stand.
+// What the definition and the code share: the numbers, and the types, which the definition in specs/ sees as they stand.
+
+// ── Numbers ──
+
+// The most connections that a pool may have, and the most requests that may wait. All numbers below follow from these two
+// and from a record's length; specs/ has them too, in Pool and Refusals, and the proofs tie the two.
+pub const SLOTS: usize = 64;
+
+pub const QUEUE: usize = 256;
+
+// A record in bytes, and as a line of the log: two digits a byte, and a newline.
+pub const RECORD: usize = 16;
+
+pub const LINE: usize = 2 * RECORD + 1;
+
+// The room that any event's records fit in. Closing writes most: one for each connection and each waiter, and one more. The
+// room is the next power of two, which the constants between find by filling all bits below the highest.
+const NEEDED: usize = RECORD * (SLOTS + QUEUE + 1) - 1;
+
+const FILLED_2: usize = NEEDED | NEEDED >> 1;
+
+const FILLED_4: usize = FILLED_2 | FILLED_2 >> 2;
+
+const FILLED_8: usize = FILLED_4 | FILLED_4 >> 4;
+
+const FILLED_16: usize = FILLED_8 | FILLED_8 >> 8;
+
+pub const ROOM: usize = (FILLED_16 | FILLED_16 >> 16) + 1;
+
+// The same, as lines.
+pub const ROOM_LINES: usize = ROOM / RECORD * LINE;
+
+// An event may take ids while the next one is at most this, and then takes at most one for each slot and one more.
+pub const LAST_NEXT_ID: u32 = 4294967295 - (2 * SLOTS as u32 - 1);
+
+pub const MOST_NEXT_ID: u32 = LAST_NEXT_ID + SLOTS as u32 + 1;
+
+// ── Types ──
 
 // The fifteen kinds of event, in order of their numbers.
 pub enum Event {

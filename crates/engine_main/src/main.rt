@@ -3,12 +3,13 @@
 ghost use Rattle.slots.specs.View.{given, before, after};
 ghost use Rattle.refinement.specs.Stands.{Formed};
 use definition::Options;
+use definition::QUEUE;
+use definition::ROOM;
+use definition::SLOTS;
 use libc::STDIN_FILENO;
 use libc::STDOUT_FILENO;
-use slots::Numbers;
 use slots::Head;
-use slots::QUEUE;
-use slots::SLOTS;
+use slots::Numbers;
 use slots::States;
 use slots::Times;
 use slots::Waiters;
@@ -84,7 +85,7 @@ fn play(options: Options) {
         let mut states: States = [0; 2 * SLOTS];
         let mut waiters: Waiters = [0; QUEUE];
         let mut buf = [0u8; 61440];
-        let mut out = [0u8; 8192];
+        let mut out = [0u8; ROOM];
         let head = pool::fresh_head(o);
         let t = all(
             head,

@@ -1,6 +1,7 @@
 // The entry points: a pool value, bytes and an output, for all inputs, with no condition on any.
 ghost use mathlib.Core.Path.{_≡_};
 ghost use Rattle.entry.specs.Entry.{entered, entry};
+use definition::ROOM;
 use definition::Refusal;
 use pool::Pool;
 use slots::Outcome;
@@ -14,7 +15,7 @@ pub struct Stepped {
 pub fn step(pool: Pool, frame: &[u8], out: &mut [u8]) -> Stepped
     ensures { λ r. ⌜ entered (r .pool) (now (out .exit)) (r .outcome) ≡ entry pool (now (frame .entry)) (now (out .entry)) ⌝ }
 {
-    if out.len() < 8192 {
+    if out.len() < ROOM {
         return Stepped {
             pool: pool,
             outcome: Outcome::Refused(Refusal::OutputShort),

@@ -3,12 +3,15 @@ ghost use mathlib.Core.Path.{_≡_};
 ghost use Rattle.entry.specs.Entry.{entered, entry};
 use definition::ConnectionState;
 use definition::Options;
+use definition::RECORD;
+use definition::ROOM;
+use definition::ROOM_LINES;
 use entry::Stepped;
 use libc::STDOUT_FILENO;
 use pool::Pool;
 use pool::Slot;
-use slots::Status;
 use slots::Outcome;
+use slots::Status;
 
 // A local pool, lent to `entry::event`.
 fn once(start: Pool, frame: &[u8], out: &mut [u8]) -> Stepped
@@ -63,9 +66,9 @@ fn records(out: &[u8], n: usize) {
         say(b"no records\n");
         return;
     }
-    if n <= 512 {
-        if 8192 <= out.len() {
-            let mut line = [0u8; 16896];
+    if n <= ROOM / RECORD {
+        if ROOM <= out.len() {
+            let mut line = [0u8; ROOM_LINES];
             text::print_records(out, n, &mut line);
             let end = n * 33;
             say(&line[0..end]);
@@ -108,7 +111,7 @@ fn made(maximum: u32, minimum: u32, connecting: u32, idle: u64) -> Pool {
 
 fn day() {
     say(b"a day\n");
-    let mut out = [0u8; 8192];
+    let mut out = [0u8; ROOM];
     let m = Pool::from_bytes(&[0u8; 24]);
     let p0 = m.pool;
     let p1 = play(p0, frame(6, 0, 0, 5, 0), &mut out);
@@ -126,7 +129,7 @@ fn day() {
 
 // An available connection, number 1, since 1.
 fn one_of(p: Pool) -> Pool {
-    let mut out = [0u8; 8192];
+    let mut out = [0u8; ROOM];
     let p1 = play(p, frame(6, 0, 0, 1, 0), &mut out);
     let p2 = play(p1, frame(1, 0, 1, 1, 0), &mut out);
     let p3 = play(p2, frame(7, 0, 1, 1, 0), &mut out);
@@ -135,7 +138,7 @@ fn one_of(p: Pool) -> Pool {
 
 fn idle() {
     say(b"age 99, then 100\n");
-    let mut out = [0u8; 8192];
+    let mut out = [0u8; ROOM];
     let p = one_of(made(0, 0, 0, 100));
     let q = play(p, frame(10, 0, 0, 100, 0), &mut out);
     let _r = play(q, frame(10, 0, 0, 101, 0), &mut out);
@@ -143,14 +146,14 @@ fn idle() {
 
 fn same_id() {
     say(b"ids 5 and 5\n");
-    let mut out = [0u8; 8192];
+    let mut out = [0u8; ROOM];
     let p = play(made(0, 0, 0, 0), frame(6, 0, 0, 1, 0), &mut out);
     let q = play(p, frame(1, 0, 5, 1, 0), &mut out);
     let _r = play(q, frame(1, 0, 5, 1, 0), &mut out);
 }
 
 fn silent(p: Pool, f: [u8; 24]) -> Pool {
-    let mut out = [0u8; 8192];
+    let mut out = [0u8; ROOM];
     let s = once(p, &f, &mut out);
     s.pool
 }
@@ -174,7 +177,7 @@ fn waiting(p: Pool) {
 
 fn queue() {
     say(b"the 256th and the 257th waiter\n");
-    let mut out = [0u8; 8192];
+    let mut out = [0u8; ROOM];
     let p = play(made(1, 0, 0, 0), frame(6, 0, 0, 1, 0), &mut out);
     let q = wait(play(p, frame(1, 0, 1, 1, 0), &mut out));
     waiting(q);
@@ -196,7 +199,7 @@ fn short() {
 // ── pools that break a rule ──
 
 fn tried(label: &[u8], p: Pool) {
-    let mut out = [0u8; 8192];
+    let mut out = [0u8; ROOM];
     say(label);
     let _q = play(p, frame(6, 0, 0, 9, 0), &mut out);
 }
@@ -400,7 +403,7 @@ fn generation_from(p: Pool, generation: u32) -> Pool {
 }
 
 fn ends() {
-    let mut out = [0u8; 8192];
+    let mut out = [0u8; ROOM];
     say(b"the serial goes on at 0\n");
     let p = play(
         serial_from(made(0, 0, 0, 0), 4294967294),
@@ -427,7 +430,7 @@ fn ends() {
 
 fn closed() {
     say(b"after the close\n");
-    let mut out = [0u8; 8192];
+    let mut out = [0u8; ROOM];
     let p = one_of(made(0, 2, 3, 0));
     let p1 = play(p, frame(1, 0, 2, 2, 0), &mut out);
     let p2 = play(p1, frame(10, 0, 0, 2, 0), &mut out);
@@ -441,7 +444,7 @@ fn closed() {
 }
 
 fn closed_on(p: Pool) {
-    let mut out = [0u8; 8192];
+    let mut out = [0u8; ROOM];
     let p1 = play(p, frame(4, 3, 1, 3, 3), &mut out);
     let p2 = play(p1, frame(8, 0, 2, 4, 4), &mut out);
     let p3 = play(p2, frame(7, 0, 3, 4, 0), &mut out);

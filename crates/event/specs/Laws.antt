@@ -30,7 +30,7 @@ use Rattle.refinement.specs.Events.{Fit, fit-clock}
 use Rattle.refinement.specs.Call.{clock-stands}
 use Rattle.refinement.specs.Formed.{ids-left, closed-takes}
 use Rattle.refinement.specs.Needs.{can-serve-after}
-use Rattle.refinement.specs.Few.{room-after}
+use Rattle.refinement.specs.RecordRoom.{room-after}
 use Rattle.event.specs.Asks.{Asks}
 
 -- ── What the stages ask ────────────────────────────────────────────────────────────────────────────────────────────────
@@ -52,7 +52,7 @@ module _ (p : SlotPool) (e : Event) (now : ℕ) (f : Formed p) (h : Passed p e n
   serves q n l eq en room =
       let w = subst (λ (x : ℕ). Whole (handle e x (withClock p now) .pool) × CanServe (handle e x (withClock p now) .pool)) (sym at) (can-serve-after p e now f h) in
       let a = asks in
-      let r = room-after e i (withClock p now) _ l (a .stands) (a .fit) room in
+      let r = room-after (a .stands) e i (a .fit) l room in
       let v : q .availables ≡ handle e i (withClock p now) .pool .availables = ap (λ (x : SlotPool). x .availables) eq in
       (rw eq (w .0), rw eq (w .1), (omega (arith, en, v, r .0), omega (arith, en, v, r .1)))
 

@@ -15,6 +15,7 @@ ghost use Rattle.event.specs.Asks.{Asks};
 use acts::Progress;
 use definition::Event;
 use definition::Frame;
+use definition::ROOM;
 use definition::Refusal;
 use slots::Numbers;
 use slots::Head;
@@ -235,7 +236,7 @@ pub fn call(
     requires { ⌜ Formed (given head numbers times states waiters) ⌝ }
     ensures { λ r. ⌜ world (after (r .head) numbers times states waiters) (now (out .exit)) (r .outcome) ≡ call (before head numbers times states waiters) (now (out .entry)) frame ⌝ }
 {
-    if out.len() < 8192 {
+    if out.len() < ROOM {
         return Answer {
             head: head,
             outcome: Outcome::Refused(Refusal::OutputShort),

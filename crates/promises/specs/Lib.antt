@@ -7,7 +7,7 @@ pub mod Sums
 pub mod Conserve
 pub mod Numbered
 pub mod Bound
-pub mod Few
+pub mod RecordCounts
 pub mod Promises
 pub mod Proved
 pub mod GivesBack

@@ -6,9 +6,9 @@ use mathlib.Core.List.{List, [], _∷_, _++_, List·Memᴰ}
 use Prim.Native.Nat.{ℕ, suc, _+_, _*_, _≤_}
 use lib.ListN.{length}
 use Rattle.definition.specs.Pool.{Pool, fresh, slotCount, withDefaults, withClock}
-use Rattle.definition.specs.Records.{Record, Replied, Pooled}
+use Rattle.definition.specs.Records.{Record, Replied, Pooled, recordLength}
 use Rattle.definition.specs.Steps.{handle, service}
-use Rattle.definition.specs.Refusals.{first, tests, Call, after, run, enoughRoom, Made, make}
+use Rattle.definition.specs.Refusals.{first, tests, Call, after, run, enoughRoom, roomRecords, Made, make}
 use Rattle.definition.specs.declared.Options.{Options}
 use Rattle.definition.specs.declared.Event.{Event}
 use Rattle.definition.specs.declared.Frame.the-variants.{Good}
@@ -26,7 +26,7 @@ logOf o calls = run calls (fresh o) .records
 abbrev pub standing : ℕ → Pool → ℕ
 standing i p = often i (numbers (p .available)) + often i (numbers (p .lent)) + often i (numbers (p .pending))
 
--- The pool that is made is a fresh one whose minimum is not above its maximum, and its maximum not above 64.
+-- The pool that is made is a fresh one whose minimum is not above its maximum, and its maximum not above slotCount.
 pub record Fresh (asked : Options) (p : Pool) : Type 0 where
   pub is-fresh : p ≡ fresh (withDefaults asked)
   pub ordered : p .options .minimum ≤ p .options .maximum
@@ -86,10 +86,10 @@ InTime o =
 abbrev pub FewClosed : Type 0
 FewClosed = (p : Pool) → length (closed (service p .records)) ≤ length (p .available)
 
--- A call writes 512 records at most: of 16 bytes each, they fit the room that is asked for.
+-- A call writes no more records than the room that is asked for has place for.
 pub record FewRecords (o : Options) (before : List Call) (call : Call) : Type 0 where
-  pub at-most : length (after (poolAfter o before) (result (poolAfter o before) call) .records) ≤ 512
-  pub room-for-all : 16 * length (after (poolAfter o before) (result (poolAfter o before) call) .records) ≤ enoughRoom
+  pub at-most : length (after (poolAfter o before) (result (poolAfter o before) call) .records) ≤ roomRecords
+  pub room-for-all : recordLength * length (after (poolAfter o before) (result (poolAfter o before) call) .records) ≤ enoughRoom
 
 -- (e) The pool counts its records: the next record's serial is the number of those in the log.
 abbrev pub Serials : Options → List Call → Type 0

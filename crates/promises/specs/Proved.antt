@@ -21,7 +21,7 @@ use Rattle.promises.specs.Progress.{progress}
 use Rattle.promises.specs.Conserve.{held, Moves, conserved, run-moves, until-service-moves}
 use Rattle.promises.specs.Numbered.{Numbers, created-once, run-numbers, until-service-numbers}
 use Rattle.promises.specs.Bound.{run-reached, fresh-reached}
-use Rattle.promises.specs.Few.{service-closes, step-few}
+use Rattle.promises.specs.RecordCounts.{service-closes, step-few}
 
 -- ── Made ───────────────────────────────────────────────────────────────────────────────────────────────────────────────
 

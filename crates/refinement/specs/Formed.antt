@@ -12,7 +12,7 @@ use Rattle.definition.specs.Words.{if_then_else_, _<?_, _≤?_, _=?_}
 use Rattle.definition.specs.Pool.{queueLength, Pool, fresh, inRange, slotCount, isClosed}
 use Rattle.definition.specs.Steps.{_>>_, kindNo}
 use Rattle.definition.specs.Refusals as R
-use Rattle.definition.specs.Refusals.{first, enoughRoom, lastNextId, takenAfterClose, after, run}
+use Rattle.definition.specs.Refusals.{first, enoughRoom, lastNextId, takenAfterClose, after, run, mostNextId}
 use Rattle.definition.specs.declared.Options.{Options}
 use Rattle.definition.specs.declared.Event.{Event}
 use Rattle.definition.specs.declared.Event.the-variants.{CheckOut, WarmPool, Abandon, CheckIn, Clear, MarkAsReady, Succeeded, SucceededForPool, Failed, Maintenance, FillPool, Pin, ReturnToPinner, TakeFromPinner, Close}
@@ -188,22 +188,22 @@ is-close (ReturnToPinner n) h = absurd (false≢true h)
 is-close (TakeFromPinner n) h = absurd (false≢true h)
 is-close Close h = refl
 
-pub event-numbers : (p : SlotPool) (e : Event) (now i : ℕ) → Limits (p .options) → Passed p e now → p .nextId ≤ lastNextId + 65 → S.event e i (S.withClock p now) .pool .nextId ≤ lastNextId + 65
+pub event-numbers : (p : SlotPool) (e : Event) (now i : ℕ) → Limits (p .options) → Passed p e now → p .nextId ≤ mostNextId → S.event e i (S.withClock p now) .pool .nextId ≤ mostNextId
 event-numbers p e now i lim h n =
     let q = S.withClock p now in
     by-bool (isClosed (p .state))
     (λ c. omega (arith, closed-leaves e i q c (closed-takes p e now h c) .next))
     (λ c. by-bool (kindNo e =? 15)
-    (λ k. subst (λ (x : Event). S.event x i q .pool .nextId ≤ lastNextId + 65) (sym (is-close e k)) (omega (arith, close-leaves i q .next)))
+    (λ k. subst (λ (x : Event). S.event x i q .pool .nextId ≤ mostNextId) (sym (is-close e k)) (omega (arith, close-leaves i q .next)))
     (λ k. omega (arith, event-leaves e i q .next, news-most e q, ids-left p e now h c k)))
 
 -- a refused call takes none
-call-numbers : {m : Pool} (p : SlotPool) (l : List ℕ) (f : Frame) → Stands p m → p .nextId ≤ lastNextId + 65 → C.call p l f .pool .nextId ≤ lastNextId + 65
+call-numbers : {m : Pool} (p : SlotPool) (l : List ℕ) (f : Frame) → Stands p m → p .nextId ≤ mostNextId → C.call p l f .pool .nextId ≤ mostNextId
 unfolding C.call C.step C.verdict if_then_else_
 call-numbers p l Bad st n = n
 call-numbers p l (Good e now) st n = go (length l <? enoughRoom) (first (C.tests p e now)) refl
   where
-    go : (b : Bool) (x : Option Refusal) → first (C.tests p e now) ≡ x → (if b then world p l (Refused OutputShort) else C.judged p l e now (C.orAccept (target p e) x)) .pool .nextId ≤ lastNextId + 65
+    go : (b : Bool) (x : Option Refusal) → first (C.tests p e now) ≡ x → (if b then world p l (Refused OutputShort) else C.judged p l e now (C.orAccept (target p e) x)) .pool .nextId ≤ mostNextId
     go true x h = n
     go false none h = event-numbers p e now (target p e) (st .alike .limits) (tests-passed st e now h) n
     go false (some r) h = n

@@ -15,5 +15,5 @@ pub mod Leaves
 pub mod Call
 pub mod Formed
 pub mod Needs
-pub mod Few
+pub mod RecordRoom
 pub mod Rules

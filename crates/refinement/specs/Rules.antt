@@ -11,7 +11,7 @@ use lib.Seq.{length-take-le}
 use borrow.Author.Tests.{eq-eqb, ne-eqb}
 use Rattle.definition.specs.Words.{if_then_else_, _=?_}
 use Rattle.definition.specs.Pool.{queueLength, slotCount, Pool, Conn, without, stateNo}
-use Rattle.definition.specs.Refusals.{lastNextId}
+use Rattle.definition.specs.Refusals.{mostNextId}
 use Rattle.definition.specs.declared.ConnectionState.{ConnectionState}
 use Rattle.definition.specs.declared.ConnectionState.the-variants.{Vacant, CheckedIn, CheckedOut, Pinned, Pending}
 use Rattle.definition.specs.declared.PinnedState.the-variants.{InUse, Returned}
@@ -209,7 +209,7 @@ pub record Rules (p : SlotPool) : Type 0 where
   pub queueRest : (j : ℕ) → p .waitings ≤ j → getD (p .waiters) j 0 ≡ 0
   pub rises : Rises 0 (p .lastRequest) (S.waitersOf p)
   pub serial : p .serial < 4294967296
-  pub numbers : p .nextId ≤ lastNextId + 65
+  pub numbers : p .nextId ≤ mostNextId
 
 -- the lists that such a pool stands for
 abbrev pub listsOf : SlotPool → Pool

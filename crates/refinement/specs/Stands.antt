@@ -5,7 +5,7 @@ use Prim.Native.Nat.{ℕ, _+_, _≤_, _<_}
 use lib.ListN.{length, getD, take}
 use Rattle.definition.specs.Pool.{Pool, Conn, Waiter, slotCount, queueLength}
 use Rattle.definition.specs.Bytes.{serialOf}
-use Rattle.definition.specs.Refusals.{lastNextId}
+use Rattle.definition.specs.Refusals.{lastNextId, mostNextId}
 use Rattle.definition.specs.Steps.{Out}
 use Rattle.definition.specs.declared.Options.{Options}
 use Rattle.slots.specs.View.{SlotPool, Slot, waiterOf}
@@ -63,8 +63,8 @@ pub record Same (o : Out SlotPool) (o' : Out Pool) : Type 0 where
   pub records : o .records ≡ o' .records
   pub stands : Stands (o .pool) (o' .pool)
 
--- a pool that stands for lists; an event takes at most 65 ids, and only while the next one is at most lastNextId
+-- a pool that stands for lists; its next id is in its bound
 pub record Formed (p : SlotPool) : Type 0 where
   pub lists : Pool
   pub stands : Stands p lists
-  pub numbers : p .nextId ≤ lastNextId + 65
+  pub numbers : p .nextId ≤ mostNextId

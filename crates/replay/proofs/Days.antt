@@ -6,6 +6,7 @@ use Prim.Native.Nat.{ℕ, _+_, _-_, _≤_, _<_}
 use native.Mathlib.Omega.{arith}
 use borrow.Author.Tests.{eq-eqb, ne-eqb, le-leb, lt-leb}
 use lib.ListN.{length, take, drop, replicate, length-append, length-take, length-drop}
+use Rattle.definition.specs.Refusals.{enoughRoom}
 use Rattle.definition.specs.Words.{if_then_else_, _=?_, _≤?_}
 use Rattle.slots.specs.View.{SlotPool}
 use Rattle.slots.specs.declared.Head.{Head}
@@ -24,14 +25,14 @@ abbrev pub beginRun : (budget : ℕ) → Run
 beginRun budget = record { pace = record { phase = First; used = 0; budget = budget }; held = replicate 50 0; count = 0 }
 
 opening-view : (budget : ℕ) (r : Run) (h : Head) → r ≡ beginRun budget → h ≡ freshHead blank
-    → viewOf r (overBlank h) (replicate 8192 0) ≡ opening budget
+    → viewOf r (overBlank h) (replicate enoughRoom 0) ≡ opening budget
 opening-view budget r h e g =
-    ap (λ (x : Run). viewOf x (overBlank h) (replicate 8192 0)) e
-    ∙ ap (λ (x : Head). viewOf (beginRun budget) (overBlank x) (replicate 8192 0)) g
-    ∙ ap (λ (x : SlotPool). emptied (begun budget x (replicate 8192 0))) (fresh-parts blank)
+    ap (λ (x : Run). viewOf x (overBlank h) (replicate enoughRoom 0)) e
+    ∙ ap (λ (x : Head). viewOf (beginRun budget) (overBlank x) (replicate enoughRoom 0)) g
+    ∙ ap (λ (x : SlotPool). emptied (begun budget x (replicate enoughRoom 0))) (fresh-parts blank)
 
 pub opening-read : (budget : ℕ) (r₀ : Run) (h₀ : Head) (text o o' : List ℕ) (r : Run) (p : SlotPool) (sc : List ℕ) (n w : ℕ) → r₀ ≡ beginRun budget → h₀ ≡ freshHead blank
-    → Read (goOn onSlots (length o) (viewOf r₀ (overBlank h₀) (replicate 8192 0)) text) text o o' r p sc n w
+    → Read (goOn onSlots (length o) (viewOf r₀ (overBlank h₀) (replicate enoughRoom 0)) text) text o o' r p sc n w
     → Read (goOn onSlots (length o) (opening budget) text) text o o' r p sc n w
 opening-read budget r₀ h₀ text o o' r p sc n w e g k = subst (λ (v : View Play). Read (goOn onSlots (length o) v text) text o o' r p sc n w) (opening-view budget r₀ h₀ e g) k
 

@@ -10,7 +10,7 @@ use lib.ListN.{length, drop}
 use Rattle.definition.specs.Words.{if_then_else_, _≤?_}
 use Rattle.definition.specs.Pool.{withDefaults, inRange}
 use Rattle.definition.specs.Records.{fields}
-use Rattle.definition.specs.Refusals.{refusalNo, enoughRoom}
+use Rattle.definition.specs.Refusals.{refusalNo, enoughRoom, roomRecords}
 use Rattle.definition.specs.Bytes.{recordBytes, lineOf, frameOfLine, optionsOfLine}
 use Rattle.definition.specs.Day.{RefusedLine, entryBytes}
 use Rattle.definition.specs.declared.Options.{Options}
@@ -28,7 +28,7 @@ use Rattle.replay.specs.declared.Phase.{Phase}
 use Rattle.replay.specs.declared.Phase.the-variants.{First, Going, Ended}
 use Rattle.replay.specs.declared.Pace.{Pace}
 use Rattle.replay.specs.Feed.{Took, quiet, finish}
-use Rattle.replay.specs.Few.{FewIn, call-few}
+use Rattle.refinement.specs.RecordRoom.{FewIn, call-few}
 use Rattle.replay.specs.OnSlots.{Play, refusedLine, options, made, ready, badly, answered, lineIn, lastIn, lineSlots, lastSlots, onSlots}
 use Rattle.replay.specs.Code.{playOf, Able, Lined, Opens}
 
@@ -89,7 +89,7 @@ abbrev pub countedPace : Pace → Pace
 countedPace r = record { phase = Going; used = r .used + 1; budget = r .budget }
 
 module _ (p p' : SlotPool) (l l' : List ℕ) (f : Frame) (c : Outcome) (e : world p' l' c ≡ call p l f) (h : Formed p) where
-  pub few-of : (n : ℕ) → c ≡ Accepted n → n ≤ 512
+  pub few-of : (n : ℕ) → c ≡ Accepted n → n ≤ roomRecords
   few-of n k = subst FewIn k (subst (λ (w : World). FewIn (w .outcome)) (sym e) (call-few p (h .lists) l f (h .stands)))
 
   formed-after : Formed p'

@@ -2,8 +2,10 @@
 use mathlib.Core.Path.{_≡_, refl, sym, ap, _∙_}
 use mathlib.Core.Bool.{Bool, true, false}
 use mathlib.Core.List.{List, [], _∷_, _++_, append-assoc, append-nil}
-use Prim.Native.Nat.{ℕ, _-_}
+use Prim.Native.Nat.{_*_, ℕ, _-_}
 use lib.ListN.{length, take, drop, take-append-drop}
+use Rattle.definition.specs.Records.{logLineLength}
+use Rattle.definition.specs.Refusals.{roomRecords}
 use Rattle.definition.specs.Words.{if_then_else_, _<?_, _=?_}
 use Rattle.definition.specs.Bytes.{newline}
 
@@ -28,12 +30,12 @@ pub record Fed (S O : Type 0) : Type 0 where
   pub out : List O
   pub rest : List ℕ
 
--- the most that is held of a line; the room that the records of any event fit in, as lines: 512 of 33 bytes
+-- the most that is held of a line; the room that the records of any event fit in, as lines
 abbrev pub heldMost : ℕ
 heldMost = 50
 
 abbrev pub lineRoom : ℕ
-lineRoom = 16896
+lineRoom = roomRecords * logLineLength
 
 module _ {S O : Type 0} where
   abbrev pub quiet : S → Took S O

@@ -1,7 +1,6 @@
 pub mod Feed
 pub mod Whole
 pub mod Lists
-pub mod Few
 pub mod Laying
 pub mod OnSlots
 pub mod Meaning

@@ -11,7 +11,7 @@ use Rattle.definition.specs.Words.{if_then_else_, _<?_}
 use Rattle.definition.specs.Pool.{Pool, withDefaults, inRange, fresh}
 use Rattle.definition.specs.Steps.{Out}
 use Rattle.definition.specs.Refusals as R
-use Rattle.definition.specs.Refusals.{enoughRoom, make, first}
+use Rattle.definition.specs.Refusals.{enoughRoom, roomRecords, make, first}
 use Rattle.definition.specs.Bytes.{lineOf, frameOfLine, optionsOfLine}
 use Rattle.definition.specs.Day.{Entry, RefusedLine, entryBytes, entriesOf, numbered, textOf, linesOf, logOf, framesUsed}
 use Rattle.definition.specs.declared.Options.{Options}
@@ -34,7 +34,7 @@ use Rattle.replay.specs.Feed.{Took, Machine, View, Fed, Lend, quiet, the
 use Rattle.replay.specs.Whole.{lines, text-lines}
 use Rattle.replay.specs.Lists as L
 use Rattle.replay.specs.Lists.{Lists, Stage, First, Going, Ended, onLists, start, day-lines}
-use Rattle.replay.specs.Few.{FewIn, call-few}
+use Rattle.refinement.specs.RecordRoom.{FewIn, call-few}
 use Rattle.replay.specs.Laying.{printed-lay, length-lay}
 use Rattle.replay.specs.OnSlots as P
 use Rattle.replay.specs.OnSlots.{Play, refusedLine, saidOf, lineSlots, lastSlots, onSlots, slots-tame}
@@ -102,7 +102,7 @@ module _ (s : Play) (t : Lists) (m : Pool) (st : Stands (s .pool) m) (h : Plays 
       subst (λ (v : World). Says (P.answered s v) (L.answered t m (R.Refused x))) (sym e) q
   world-says w (R.Accepted o) k few =
       let a = k .accepts o refl in
-      let n : length (o .records) ≤ 512 = subst FewIn (a .outcome) few in
+      let n : length (o .records) ≤ roomRecords = subst FewIn (a .outcome) few in
       record {
         plays = record { used = one-more; budget = h .budget; stage = a .pool; room = omega (arith, h .room, ap length (a .out), length-lay (s .pool .serial) 0 (o .records) (s .scratch) (omega (arith, h .room))) };
         text = ap (λ (x : Outcome). saidOf x (w .out) (s .used + 2)) (a .outcome) ∙ ap (printed (length (o .records))) (a .out)

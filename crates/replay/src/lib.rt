@@ -16,12 +16,14 @@ ghost use Rattle.replay.specs.OnSlots.{answered, lineSlots, onSlots};
 ghost use Rattle.replay.specs.Days.{dayIn, Logged};
 ghost use Rattle.replay.specs.Code.{playOf, viewOf, heldOf, Able, Opens, Lined, Holds, Kept, Pieced, Read};
 use definition::Options;
+use definition::ROOM;
+use definition::ROOM_LINES;
 use definition::Refusal;
 use slots::Numbers;
 use slots::Head;
 use slots::Outcome;
-use slots::QUEUE;
-use slots::SLOTS;
+use definition::QUEUE;
+use definition::SLOTS;
 use slots::States;
 use slots::Times;
 use slots::Waiters;
@@ -347,7 +349,7 @@ pub struct Part {
     pub written: usize,
 }
 
-// As much of the text as there is room for: it stops before a line only where less than 16,896 bytes of the output are left.
+// As much of the text as there is room for: it stops before a line only where less than ROOM_LINES bytes of the output are left.
 pub fn replay_some(
     run: Run,
     head: Head,
@@ -368,7 +370,7 @@ pub fn replay_some(
     let mut count = run.count;
     let mut at: usize = 0;
     let mut w: usize = 0;
-    while at < text.len() && 16896 <= o.len() - w {
+    while at < text.len() && ROOM_LINES <= o.len() - w {
         let e = line_end(text, at);
         if count == 0 && text[e - 1] == 10 {
             let k = take_line(
@@ -505,7 +507,7 @@ pub struct Day {
     pub written: usize,
 }
 
-// A day's text in one call. Room for the log and 16,896 bytes more is enough for all of it.
+// A day's text in one call. Room for the log and ROOM_LINES bytes more is enough for all of it.
 pub fn replay_day(budget: u64, text: &[u8], o: &mut [u8]) -> Day
     ensures { λ r. ⌜ Logged (dayIn (length (now (o .entry))) budget (now (text .entry))) (now (o .entry)) (now (o .exit)) r ⌝ }
 {
@@ -513,7 +515,7 @@ pub fn replay_day(budget: u64, text: &[u8], o: &mut [u8]) -> Day
     let mut times: Times = [0; SLOTS];
     let mut states: States = [0; 2 * SLOTS];
     let mut waiters: Waiters = [0; QUEUE];
-    let mut scratch = [0u8; 8192];
+    let mut scratch = [0u8; ROOM];
     let run = begin(budget);
     let head = no_head();
     let p = replay_some(
@@ -531,7 +533,7 @@ pub fn replay_day(budget: u64, text: &[u8], o: &mut [u8]) -> Day
     let r = p.run;
     let h = p.head;
     if p.read == text.len() {
-        if 16896 <= o.len() - n {
+        if ROOM_LINES <= o.len() - n {
             let k = finish(
                 r,
                 h,

@@ -9,7 +9,7 @@ use lib.Seq.{getD-take, length-take-le}
 use borrow.Author.Tests.{lt-ltb, le-ltb, le-leb, eq-eqb, ne-eqb, ltb-true, leb-true, eqb-true}
 use Rattle.definition.specs.Words.{if_then_else_, _=?_, _<?_, _≤?_}
 use Rattle.definition.specs.Pool.{queueLength, inRange, slotCount}
-use Rattle.definition.specs.Refusals.{lastNextId}
+use Rattle.definition.specs.Refusals.{mostNextId}
 use Rattle.definition.specs.declared.Options.{Options}
 use Rattle.slots.specs.declared.Head.{Head}
 use Rattle.slots.specs.View.{SlotPool, Slot, poolOf, Whole, waiterOf}
@@ -270,7 +270,7 @@ module _ (h : Head) (cs ts ss ws : List ℕ) (w : Whole (poolOf h cs ts ss ws)) 
       let next = h .«next_connection_id» in
       let n = h .«available_count» in
       let m = h .«waiting_count» in
-      let t = ten (inRange (h .options)) (next ≤? lastNextId + 65) (idsBelow cs next) (idsDistinct cs) (slotsFit cs ts ss)
+      let t = ten (inRange (h .options)) (next ≤? mostNextId) (idsBelow cs next) (idsDistinct cs) (slotsFit cs ts ss)
       (countsRight ss (h .«total_connection_count») (h .«pending_connection_count») n) (orderRight (drop slotCount ss) ss n) (blankFrom slotCount n (drop slotCount ss)) (queueRises ws m (h .«last_request»)) (blankFrom queueLength m ws) q in
       let b = slots-blank h cs ts ss ws w (t .4) in
       let u = slots-used h cs ts ss ws w (t .4) in
@@ -293,7 +293,7 @@ module _ (h : Head) (cs ts ss ws : List ℕ) (w : Whole (poolOf h cs ts ss ws)) 
         queueRest = blank-say queueLength m ws (w .waiters) (t .9);
         rises = queue-say ws m (h .«last_request») (w .waiters) (t .8);
         serial = low;
-        numbers = leb-true next (lastNextId + 65) (t .1);
+        numbers = leb-true next (mostNextId) (t .1);
       }
 
   -- what keeps the rules passes the test
@@ -305,7 +305,7 @@ module _ (h : Head) (cs ts ss ws : List ℕ) (w : Whole (poolOf h cs ts ss ws)) 
       let m = h .«waiting_count» in
       both-true
       (both-true
-      (both-true (options-pass (h .options) (r .limits)) (le-leb next (lastNextId + 65) (r .numbers)))
+      (both-true (options-pass (h .options) (r .limits)) (le-leb next (mostNextId) (r .numbers)))
       (both-true (below-pass cs (w .ids) next (r .below)) (both-true (distinct-pass cs (w .ids) (r .unique)) (slots-pass h cs ts ss ws w (r .blank) (r .used)))))
       (both-true
       (both-true

@@ -5,7 +5,7 @@ use Prim.Native.Nat.{ℕ, zero, suc, _+_, _/_}
 use lib.ListN.{getD, drop}
 use Rattle.definition.specs.Words.{if_then_else_, _=?_, _<?_, _≤?_}
 use Rattle.definition.specs.Pool.{queueLength, slotCount, inRange}
-use Rattle.definition.specs.Refusals.{lastNextId}
+use Rattle.definition.specs.Refusals.{mostNextId}
 use Rattle.slots.specs.declared.Head.{Head}
 use Rattle.refinement.specs.Agree.{Class}
 use Rattle.refinement.specs.Mirror.{isPending}
@@ -82,7 +82,7 @@ queueRises waiters n last = n ≤? queueLength && every n (λ i. waiterFits (bef
 
 unfoldable pub keepsRules : Head → List ℕ → List ℕ → List ℕ → List ℕ → Bool
 keepsRules h numbers times states waiters =
-    ((inRange (h .options) && h .«next_connection_id» ≤? lastNextId + 65)
+    ((inRange (h .options) && h .«next_connection_id» ≤? mostNextId)
     && (idsBelow numbers (h .«next_connection_id») && (idsDistinct numbers && slotsFit numbers times states)))
     && ((countsRight states (h .«total_connection_count») (h .«pending_connection_count») (h .«available_count»)
     && (orderRight (drop slotCount states) states (h .«available_count») && blankFrom slotCount (h .«available_count») (drop slotCount states)))

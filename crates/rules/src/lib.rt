@@ -12,8 +12,9 @@ ghost use Rattle.rules.specs.Tests.{among, isTaken, slotFits, waiterFits
 ghost use Rattle.rules.specs.Exact.{Exactly};
 use slots::Numbers;
 use slots::Head;
-use slots::QUEUE;
-use slots::SLOTS;
+use definition::MOST_NEXT_ID;
+use definition::QUEUE;
+use definition::SLOTS;
 use slots::States;
 use slots::Times;
 use slots::Waiters;
@@ -114,15 +115,20 @@ fn clashes(numbers: &Numbers, n: usize, x: u32, mark: u8) -> bool
     is_among(numbers, n, x)
 }
 
+// Four marks for each slot: two ids seldom meet at one.
+const MARKS: usize = 4 * SLOTS;
+
+const REMAINDERS: u32 = MARKS as u32;
+
 // A mark for each remainder: only where one is met again are the ids before looked through.
 fn ids_distinct(numbers: &Numbers) -> bool
     ensures { λ r. ⌜ r ≡ idsDistinct (now (numbers .entry)) ⌝ }
 {
-    let mut marks: [u8; 256] = [0; 256];
+    let mut marks: [u8; MARKS] = [0; MARKS];
     let mut i: usize = 0;
     while i < SLOTS {
         let x = numbers[i];
-        let h = (x % 256) as usize;
+        let h = (x % REMAINDERS) as usize;
         let mark = marks[h];
         if clashes(numbers, i, x, mark) {
             return false;
@@ -266,7 +272,7 @@ pub fn keeps_rules(
     let next = head.next_connection_id;
     let n = head.available_count;
     let w = head.waiting_count;
-    let options = both(pool::in_range(o), next <= 4294967233);
+    let options = both(pool::in_range(o), next <= MOST_NEXT_ID);
     let below = ids_below(numbers, next);
     let distinct = ids_distinct(numbers);
     let fit = slots_fit(numbers, times, states);

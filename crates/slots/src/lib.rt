@@ -1,7 +1,9 @@
 // The pool on fixed slots: what its head holds, and what is said of an event. The steps stand in specs/, as the code takes them.
 use definition::Options;
 use definition::PoolState;
+use definition::QUEUE;
 use definition::Refusal;
+use definition::SLOTS;
 
 pub struct Status {
     pub state: PoolState,
@@ -9,10 +11,6 @@ pub struct Status {
 }
 
 // ── The columns ──
-
-pub const SLOTS: usize = 64;
-
-pub const QUEUE: usize = 256;
 
 // The slots' ids, then their generations.
 pub type Numbers = [u32; 2 * SLOTS];

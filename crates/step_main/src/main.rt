@@ -1,5 +1,6 @@
 // The entry point without text, for the benchmark: as engine_main, but the pool is a value that each call takes, tests and gives
 // back.
+use definition::ROOM;
 use libc::STDIN_FILENO;
 use libc::STDOUT_FILENO;
 use pool::Pool;
@@ -46,7 +47,7 @@ fn all(pool: Pool, buf: &mut [u8], out: &mut [u8]) -> Tally {
 
 fn play(pool: Pool) {
     let mut buf = [0u8; 61440];
-    let mut out = [0u8; 8192];
+    let mut out = [0u8; ROOM];
     let t = all(pool, &mut buf, &mut out);
     tally::tell(t);
 }

@@ -13,7 +13,7 @@ use acts::Progress;
 use definition::PoolState;
 use slots::Numbers;
 use slots::Head;
-use slots::SLOTS;
+use definition::SLOTS;
 use slots::States;
 use slots::Times;
 use slots::Waiters;

@@ -10,7 +10,7 @@ ghost use Rattle.slots.specs.Slots.{removePerished, ensureMinConnections, tellA
 use acts::Progress;
 use slots::Numbers;
 use slots::Head;
-use slots::SLOTS;
+use definition::SLOTS;
 use slots::States;
 use slots::Times;
 use slots::Waiters;

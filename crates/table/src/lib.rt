@@ -9,7 +9,7 @@ ghost use Rattle.definition.specs.Bytes.{serialOf, recordBytes};
 ghost use Rattle.slots.specs.Order.{place, placeOf, shifted};
 ghost use Rattle.slots.specs.Laid.{laid};
 use slots::Numbers;
-use slots::SLOTS;
+use definition::SLOTS;
 use slots::States;
 use slots::Waiters;
 

@@ -4,7 +4,7 @@ use mathlib.Core.Bool.{Bool, true, false}
 use mathlib.Core.List.{List, [], _∷_}
 use Prim.Native.Nat.{ℕ, zero, suc, _+_, _≤_}
 use native.Mathlib.Omega.{arith}
-use lib.ListN.{length, getD}
+use lib.ListN.{length, getD, length-append, length-map, length-take}
 use Rattle.definition.specs.Words.{if_then_else_}
 use Rattle.definition.specs.Pool.{Pool, isReady}
 use Rattle.definition.specs.Records.{Reply, PoolCleared, Cleared}
@@ -15,7 +15,6 @@ use Rattle.slots.specs.Done.{lay, Done}
 use Rattle.slots.specs.Slots.{interrupted, clearedReady, tellAll, lents, closeFront, popFront, closeAt}
 use Rattle.refinement.specs.Stands.{Stands}
 use Rattle.refinement.specs.Needs.{can-tell-after}
-use Rattle.refinement.specs.Few.{tellAll-few}
 use Rattle.refinement.specs.Transit.{counted}
 use Rattle.upkeep.specs.Stood.{Said, interrupting}
 
@@ -58,4 +57,5 @@ unfolding tellAll _>>_
 told-serial r p q e = ap (λ (x : SlotPool). x .serial) e
 
 pub told-few : (r : Reply) (p : SlotPool) {s n m : ℕ} {l k : List ℕ} {q : SlotPool} → Done (tellAll r p) s n l q m k → m ≤ n + p .waitings
-told-few r p d = omega (arith, d .count, tellAll-few r p .records)
+unfolding tellAll _>>_
+told-few r p d = omega (arith, d .count, simp (length-append, length-map, length-take) at (d .count))

@@ -12,12 +12,13 @@ ghost use Rattle.slots.specs.View.{rows, poolOf, Whole};
 ghost use Rattle.slots.specs.Call.{kindTests, orAccept, target, verdict};
 ghost use Rattle.verdict.specs.Look.{Looks, commonOf, spent, commonTests, requestList, abandonList, stateList, timeList, pinList};
 use definition::Event;
+use definition::LAST_NEXT_ID;
 use definition::Refusal;
 use slots::Numbers;
 use slots::Head;
 use slots::Status;
-use slots::QUEUE;
-use slots::SLOTS;
+use definition::QUEUE;
+use definition::SLOTS;
 use slots::States;
 use slots::Times;
 use slots::Verdict;
@@ -84,7 +85,7 @@ fn numbers_spent(kind: u8, generation: u32, next_id: u32) -> bool
     if kind == 15 {
         return false;
     }
-    if 4294967168 < next_id {
+    if LAST_NEXT_ID < next_id {
         return true;
     }
     if kind == 5 {

@@ -93,7 +93,7 @@ module _ {M : Type 1} (𝓤 : URA M) (H : Heap 𝓤) (A : Atoms 𝓤) (W : Given
 
   -- what the frame owns; what the frame and the output own; the tokens of their lifetimes
   abbrev OwnF : Fml
-  OwnF = ShrSlice (named 1) κ₁ u8 .handle f (fv ∷ [])
+  OwnF = ShrSlice (named 1) κ₁ u8 .own f (fv ∷ [])
 
   abbrev Slices : Fml
   Slices = owns (ShrSlice (named 1) κ₁ u8 ∷ MutSlice (named 2) κ₂ u8 ∷ []) (f, (y, tt)) (fv ∷ [], (yv ∷ [], tt))
@@ -156,10 +156,10 @@ module _ {M : Type 1} (𝓤 : URA M) (H : Heap 𝓤) (A : Atoms 𝓤) (W : Given
   asks = qed W (Tokens ∷ ‵ Passed ∷ []) ∵ join ! $ frame ! $ done !
 
   -- what the pool owns, with the slices and their tokens, is what `step` asks; the frame is kept too
-  apart : ent 𝓤 (⋆ 𝓤 H A (‵ (T.the-row .handle h (val h ∷ [])) ∷ ‵ Slices ∷ Tokens ∷ []))
+  apart : ent 𝓤 (⋆ 𝓤 H A (‵ (T.the-row .own h (val h ∷ [])) ∷ ‵ Slices ∷ Tokens ∷ []))
       (sep 𝓤 (Step 𝓤 H A at-mem run .pre to) (sem 𝓤 H A OwnF))
   apart =
-      qed W (‵ (T.the-row .handle h (val h ∷ [])) ∷ ‵ Slices ∷ Tokens ∷ []) ∵
+      qed W (‵ (T.the-row .own h (val h ∷ [])) ∷ ‵ Slices ∷ Tokens ∷ []) ∵
       move ! (1 ∷ []) $ fsplit ! $ use1 W (‵ OwnF ⊛ ‵ OwnF) (shr-slice-copy 𝓤 H A W (named 1) κ₁ u8 .twice f (fv ∷ [])) $ split ! $
       -- [the frame; the frame; the output; what the pool owns; the tokens]
       move ! (0 ∷ 2 ∷ []) $ fjoin ! $ move ! (2 ∷ 0 ∷ []) $ fjoin ! $ move ! (2 ∷ 0 ∷ []) $ use2 W (raw (Step 𝓤 H A at-mem run .pre to)) asks $ frame ! $ done !
@@ -186,7 +186,7 @@ module _ {M : Type 1} (𝓤 : URA M) (H : Heap 𝓤) (A : Atoms 𝓤) (W : Given
         move ! (1 ∷ 21 ∷ 22 ∷ []) $ use3 W (raw (Step 𝓤 H A at-mem run .pre to) ⊛ ‵ OwnF) apart $ split ! $
         -- [what `step` asks; the frame; the cell; the open borrow; obs; auth; _7 (6); _6 (8); _5 (10); _4 (12); _3 (14); _2 (16); _1 (18); _0 (20)]
         calls-at ! fm (Step 𝓤 H A at-mem run) known to (and-then ! (load ! (from ! (stop !)) (look ! 10 refl)) (and-then ! (load ! (from ! (stop !)) (look ! 16 refl)) (and-then ! (load ! (from ! (stop !)) (look ! 6 refl)) (no-more !)))) (λ v.
-        use1 W (later (some (λ (r : Stepped). (Tokens ⊛ ‵ (S.the-row .handle r (v ∷ []))) ⊛ raw (ensured 𝓤 H A step.ended (step.clauses 𝓤 H A at-mem run) (κ₁, (κ₂, tt)) passed tt r)))) (id⊢ 𝓤 _) $ await ! tt $ pick ! (λ r.
+        use1 W (later (some (λ (r : Stepped). (Tokens ⊛ ‵ (S.the-row .own r (v ∷ []))) ⊛ raw (ensured 𝓤 H A step.ended (step.clauses 𝓤 H A at-mem run) (κ₁, (κ₂, tt)) passed tt r)))) (id⊢ 𝓤 _) $ await ! tt $ pick ! (λ r.
         -- what `step` ensures, at some last list of the output
         split ! $ move ! (1 ∷ []) $ use1 W (some (λ (zs : Unit {0} × (Unit {0} × (List ℕ × Unit {0}))). ‵ (lasts step.ended (κ₁, (κ₂, tt)) passed zs) ⊛ raw (fact 𝓤 (Said r (zs .1 .1 .0))))) (id⊢ 𝓤 _) $ pick ! (λ zs.
         split ! $ move ! (1 ∷ []) $ heard ! (Said r (zs .1 .1 .0)) (λ e. fsplit ! $ move ! (1 ∷ []) $ fsplit ! $ move ! (1 ∷ []) $ fsplit ! $ fsplit ! $ move ! (1 ∷ []) $ feqL ! (λ l.

@@ -72,13 +72,13 @@ module _ {M : Type 1} (𝓤 : URA M) (H : Heap 𝓤) (A : Atoms 𝓤) (W : Given
   abbrev here : Val
   here = LL.val T.the-type T′.the-laws p
 
-  lies-in : ent 𝓤 (sep 𝓤 (sem 𝓤 H A (fat fullShare T′.mir l 0 here)) (sem 𝓤 H A (T.the-row .handle p (here ∷ [])))) (sem 𝓤 H A (partAt T.the-row fullShare p l 0))
+  lies-in : ent 𝓤 (sep 𝓤 (sem 𝓤 H A (fat fullShare T′.mir l 0 here)) (sem 𝓤 H A (T.the-row .own p (here ∷ [])))) (sem 𝓤 H A (partAt T.the-row fullShare p l 0))
   unfolding partOf
-  lies-in = qed W (‵ (fat fullShare T′.mir l 0 here) ∷ ‵ (T.the-row .handle p (here ∷ [])) ∷ []) ∵
+  lies-in = qed W (‵ (fat fullShare T′.mir l 0 here) ∷ ‵ (T.the-row .own p (here ∷ [])) ∷ []) ∵
       use1 W (‵ (cellAt fullShare (T.the-row .mir) (here ∷ []) l 0)) (W .laws .at-raw fullShare T′.mir l 0 here) $ fjoin ! $
-      fpack ! (List Val) (λ vs. fsep (cellAt fullShare (T.the-row .mir) vs l 0) (T.the-row .handle p vs)) (here ∷ []) $ done !
+      fpack ! (List Val) (λ vs. fsep (cellAt fullShare (T.the-row .mir) vs l 0) (T.the-row .own p vs)) (here ∷ []) $ done !
 
-  lies-out : ent 𝓤 (sem 𝓤 H A (partAt T.the-row fullShare p l 0)) (sep 𝓤 (sem 𝓤 H A (fat fullShare T′.mir l 0 here)) (sem 𝓤 H A (T.the-row .handle p (here ∷ []))))
+  lies-out : ent 𝓤 (sem 𝓤 H A (partAt T.the-row fullShare p l 0)) (sep 𝓤 (sem 𝓤 H A (fat fullShare T′.mir l 0 here)) (sem 𝓤 H A (T.the-row .own p (here ∷ []))))
   unfolding partOf
   lies-out = qed W (‵ (partAt T.the-row fullShare p l 0) ∷ []) ∵
       fpick ! (λ vs. fsplit ! $ spelt ! T.the-row (Is T.the-row) (shows 𝓤 H A T.the-row) (LL.vals T.the-type T′.the-laws) (LL.tells T.the-type T′.the-laws) fullShare p vs l 0 $
@@ -104,7 +104,7 @@ module _ {M : Type 1} (𝓤 : URA M) (H : Heap 𝓤) (A : Atoms 𝓤) (W : Given
   at = (val h ∷ [], (fv ∷ [], (yv ∷ [], tt)))
 
   abbrev OwnF : Fml
-  OwnF = ShrSlice (named 0) κ₁ u8 .handle f (fv ∷ [])
+  OwnF = ShrSlice (named 0) κ₁ u8 .own f (fv ∷ [])
 
   -- what the contract of `event` says of the last pool p, the answer a and the last list zs
   abbrev Said : Pool → Outcome → List ℕ → Type 0
@@ -139,7 +139,7 @@ module _ {M : Type 1} (𝓤 : URA M) (H : Heap 𝓤) (A : Atoms 𝓤) (W : Given
   asks ν l δ = qed W ((‵ (flft (ν ∷ []) fullShare) ⊛ ‵ (flft κ₁ q₁) ⊛ ‵ (flft κ₂ q₂) ⊛ ‵ ftrue) ∷ ‵ (owns (MutRef (named 0) (ν ∷ []) T.the-row ∷ ShrSlice (named 1) κ₁ u8 ∷ MutSlice (named 2) κ₂ u8 ∷ []) (passed l δ) (vptr l 0 ∷ [], (fv ∷ [], (yv ∷ [], tt)))) ∷ []) ∵ join ! $ frame ! $ done !
 
   abbrev ref : ℕ → ℕ → GName → Fml
-  ref ν l δ = MutRef (named 0) (ν ∷ []) T.the-row .handle (record { ptr = (l, 0); name = δ; now = h }) (vptr l 0 ∷ [])
+  ref ν l δ = MutRef (named 0) (ν ∷ []) T.the-row .own (record { ptr = (l, 0); name = δ; now = h }) (vptr l 0 ∷ [])
 
   apart : (ν l : ℕ) (δ : GName) → ent 𝓤 (⋆ 𝓤 H A (‵ (ref ν l δ) ∷ ‵ (owns (ShrSlice (named 0) κ₁ u8 ∷ MutSlice (named 1) κ₂ u8 ∷ []) (f, (y, tt)) (fv ∷ [], (yv ∷ [], tt))) ∷ (‵ (flft (ν ∷ []) fullShare) ⊛ ‵ (flft κ₁ q₁) ⊛ ‵ (flft κ₂ q₂) ⊛ ‵ ftrue) ∷ []))
       (sep 𝓤 (Event 𝓤 H A at-mem run .pre (to ν l δ)) (sem 𝓤 H A OwnF))
@@ -169,7 +169,7 @@ module _ {M : Type 1} (𝓤 : URA M) (H : Heap 𝓤) (A : Atoms 𝓤) (W : Given
         move ! (2 ∷ 23 ∷ []) $ join ! $ move ! (1 ∷ 3 ∷ 0 ∷ []) $ use3 W (raw (Event 𝓤 H A at-mem run .pre (to ν l₄ δ)) ⊛ ‵ OwnF) (apart ν l₄ δ) $ split ! $
         -- [what `event` asks; the frame; the lender's part; _9 (3); _8 (5); _7 (7); _6 (9); _5 (11); what frees _4 (13); _3 (14); _2 (16); _1 (18); _0 (20)]
         calls-at ! fm (Event 𝓤 H A at-mem run) known (to ν l₄ δ) (and-then ! (load ! (from ! (stop !)) (look ! 9 refl)) (and-then ! (load ! (from ! (stop !)) (look ! 16 refl)) (and-then ! (load ! (from ! (stop !)) (look ! 5 refl)) (no-more !)))) (λ v.
-        use1 W (later (some (λ (a : Outcome). ((‵ (flft (ν ∷ []) fullShare) ⊛ ‵ (flft κ₁ q₁) ⊛ ‵ (flft κ₂ q₂) ⊛ ‵ ftrue) ⊛ ‵ (N.the-row .handle a (v ∷ []))) ⊛ raw (ensured 𝓤 H A event.ended (event.clauses 𝓤 H A at-mem run) (ν ∷ [], (κ₁, (κ₂, tt))) (passed l₄ δ) tt a)))) (id⊢ 𝓤 _) $ await ! tt $ pick ! (λ a.
+        use1 W (later (some (λ (a : Outcome). ((‵ (flft (ν ∷ []) fullShare) ⊛ ‵ (flft κ₁ q₁) ⊛ ‵ (flft κ₂ q₂) ⊛ ‵ ftrue) ⊛ ‵ (N.the-row .own a (v ∷ []))) ⊛ raw (ensured 𝓤 H A event.ended (event.clauses 𝓤 H A at-mem run) (ν ∷ [], (κ₁, (κ₂, tt))) (passed l₄ δ) tt a)))) (id⊢ 𝓤 _) $ await ! tt $ pick ! (λ a.
         split ! $ move ! (1 ∷ []) $ use1 W (some (λ (zs : Pool × (Unit {0} × (List ℕ × Unit {0}))). ‵ (lasts event.ended (ν ∷ [], (κ₁, (κ₂, tt))) (passed l₄ δ) zs) ⊛ raw (fact 𝓤 (Said (zs .0) a (zs .1 .1 .0))))) (id⊢ 𝓤 _) $ pick ! (λ zs.
         split ! $ move ! (1 ∷ []) $ heard ! (Said (zs .0) a (zs .1 .1 .0)) (λ e. fsplit ! $ move ! (1 ∷ []) $ fsplit ! $ move ! (1 ∷ []) $ fsplit ! $ fsplit ! $ move ! (1 ∷ []) $ feqL ! (λ l.
         -- [the last list; true; true; the last pool; the tokens and the result; the frame; the lender's part; …]
@@ -180,7 +180,7 @@ module _ {M : Type 1} (𝓤 : URA M) (H : Heap 𝓤) (A : Atoms 𝓤) (W : Given
         rewrite ! 16 (λ (u : Val). ‵ (fat fullShare N′.mir l₅ 0 u)) (ap only (EL.tells N.the-type N′.the-laws a _ is)) refl $
         -- the lifetime is ended, and the pool comes back
         move ! (1 ∷ []) $ split ! $ lft-end ! tt $ move ! (0 ∷ 8 ∷ 6 ∷ []) $ use3 W (later (‵ (partAt T.the-row fullShare (zs .0) l₄ 0))) (ref-back 𝓤 H A W T.the-row (ν ∷ []) δ (zs .0) l₄ 0) $ await ! tt $
-        use1 W (‵ (fat fullShare T′.mir l₄ 0 (val (zs .0))) ⊛ ‵ (T.the-row .handle (zs .0) (val (zs .0) ∷ []))) (lies-out 𝓤 H A W (zs .0) l₄) $ split ! $ move ! (1 ∷ []) $
+        use1 W (‵ (fat fullShare T′.mir l₄ 0 (val (zs .0))) ⊛ ‵ (T.the-row .own (zs .0) (val (zs .0) ∷ []))) (lies-out 𝓤 H A W (zs .0) l₄) $ split ! $ move ! (1 ∷ []) $
         peeks ! T.the-row (Is T.the-row) (shows 𝓤 H A T.the-row) (zs .0) (val (zs .0) ∷ []) (λ is-p. move ! (1 ∷ 0 ∷ []) $
         -- [_4; what the pool owns; the tokens (2); what the answer owns (3); the last list (4); true; true; the frame (7); _9 (8); _8 (10); _7 (12); _6 (14); _5 (16); what frees _4 (18); _3 (19); _2 (21); _1 (23); _0 (25)]
         -- _9 = _4;  _0 = (_9, _5)

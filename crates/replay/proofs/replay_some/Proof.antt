@@ -46,7 +46,7 @@ sub-if3 c =
     let l = c .before .line-end .ensures in
     let n : a .at < length (g .text .now) = c .before .before .before .loop-test .taken in
     let k : 0 < lineLen (drop (a .at) (g .text .now)) = len-positive (drop (a .at) (g .text .now)) (simp length-drop (omega arith)) in
-    let r : lineRoom ≤ length (a .o) - a .w = leb-true 16896 (length (a .o) - a .w) (c .before .before .if1 .taken) in
+    let r : lineRoom ≤ length (a .o) - a .w = leb-true lineRoom (length (a .o) - a .w) (c .before .before .if1 .taken) in
     omega (arith, l .0)
 
 shared-slice-read-if3 : tie.Need-shared-slice-read-if3 Inv-loop μ-loop
@@ -57,7 +57,7 @@ shared-slice-read-if3 c =
     let l = c .before .before .line-end .ensures in
     let n : a .at < length (g .text .now) = c .before .before .before .before .loop-test .taken in
     let k : 0 < lineLen (drop (a .at) (g .text .now)) = len-positive (drop (a .at) (g .text .now)) (simp length-drop (omega arith)) in
-    let r : lineRoom ≤ length (a .o) - a .w = leb-true 16896 (length (a .o) - a .w) (c .before .before .before .if1 .taken) in
+    let r : lineRoom ≤ length (a .o) - a .w = leb-true lineRoom (length (a .o) - a .w) (c .before .before .before .if1 .taken) in
     omega (arith, l .0, l .1)
 
 sub-take-line : tie.Need-sub-take-line Inv-loop μ-loop
@@ -86,7 +86,7 @@ take-line-requires c κs =
     let l = c .before .before .before .before .before .before .before .before .before .before .line-end .ensures in
     let n : a .at < length (g .text .now) = c .before .before .before .before .before .before .before .before .before .before .before .before .loop-test .taken in
     let k : 0 < lineLen (drop (a .at) (g .text .now)) = len-positive (drop (a .at) (g .text .now)) (simp length-drop (omega arith)) in
-    let r : lineRoom ≤ length (a .o) - a .w = leb-true 16896 (length (a .o) - a .w) (c .before .before .before .before .before .before .before .before .before .before .before .if1 .taken) in
+    let r : lineRoom ≤ length (a .o) - a .w = leb-true lineRoom (length (a .o) - a .w) (c .before .before .before .before .before .before .before .before .before .before .before .if1 .taken) in
     (v .4, omega (arith, v .1, c .before .before .before .before .before .before .before .before .before .before .before .before .before .before .before .before .before .before .before .pre .1), simp (length-take, length-drop) (omega (arith, v .2, v .5 .fits)))
 
 add-w : tie.Need-add-w Inv-loop μ-loop
@@ -97,7 +97,7 @@ add-w c =
     let l = c .before .before .before .before .before .before .before .before .before .before .before .before .before .before .before .before .before .before .line-end .ensures in
     let n : a .at < length (g .text .now) = c .before .before .before .before .before .before .before .before .before .before .before .before .before .before .before .before .before .before .before .before .loop-test .taken in
     let k : 0 < lineLen (drop (a .at) (g .text .now)) = len-positive (drop (a .at) (g .text .now)) (simp length-drop (omega arith)) in
-    let r : lineRoom ≤ length (a .o) - a .w = leb-true 16896 (length (a .o) - a .w) (c .before .before .before .before .before .before .before .before .before .before .before .before .before .before .before .before .before .before .before .if1 .taken) in
+    let r : lineRoom ≤ length (a .o) - a .w = leb-true lineRoom (length (a .o) - a .w) (c .before .before .before .before .before .before .before .before .before .before .before .before .before .before .before .before .before .before .before .if1 .taken) in
     let z : a .w + c .before .before .before .before .before .before .before .take-line .result .written ≤ length (a .o) = omega (arith, c .before .before .before .before .before .before .before .take-line .ensures .few) in
     omega (arith, z, v .2, c .before .before .before .before .before .before .before .before .before .before .before .before .before .before .before .before .before .before .before .before .before .before .before .before .before .before .before .good .1 .1 .1 .1 .1 .1 .1 .1 .0 .0)
 
@@ -127,7 +127,7 @@ take-piece-requires c κs =
     let l = c .before .before .before .before .before .before .before .before .line-end .ensures in
     let n : a .at < length (g .text .now) = c .before .before .before .before .before .before .before .before .before .before .loop-test .taken in
     let k : 0 < lineLen (drop (a .at) (g .text .now)) = len-positive (drop (a .at) (g .text .now)) (simp length-drop (omega arith)) in
-    let r : lineRoom ≤ length (a .o) - a .w = leb-true 16896 (length (a .o) - a .w) (c .before .before .before .before .before .before .before .before .before .if1 .taken) in
+    let r : lineRoom ≤ length (a .o) - a .w = leb-true lineRoom (length (a .o) - a .w) (c .before .before .before .before .before .before .before .before .before .if1 .taken) in
     (v .3, v .4, simp (length-take, length-drop) (omega (arith, l .0, l .1)), omega (arith, v .1, c .before .before .before .before .before .before .before .before .before .before .before .before .before .before .before .before .before .pre .1), simp (length-take, length-drop) (omega (arith, v .2, v .5 .fits)))
 
 add-w-2 : tie.Need-add-w-2 Inv-loop μ-loop
@@ -138,7 +138,7 @@ add-w-2 c =
     let l = c .before .before .before .before .before .before .before .before .before .before .before .before .before .before .before .before .before .line-end .ensures in
     let n : a .at < length (g .text .now) = c .before .before .before .before .before .before .before .before .before .before .before .before .before .before .before .before .before .before .before .loop-test .taken in
     let k : 0 < lineLen (drop (a .at) (g .text .now)) = len-positive (drop (a .at) (g .text .now)) (simp length-drop (omega arith)) in
-    let r : lineRoom ≤ length (a .o) - a .w = leb-true 16896 (length (a .o) - a .w) (c .before .before .before .before .before .before .before .before .before .before .before .before .before .before .before .before .before .before .if1 .taken) in
+    let r : lineRoom ≤ length (a .o) - a .w = leb-true lineRoom (length (a .o) - a .w) (c .before .before .before .before .before .before .before .before .before .before .before .before .before .before .before .before .before .before .if1 .taken) in
     let z : a .w + c .before .before .before .before .before .before .before .before .take-piece .result .written ≤ length (a .o) = omega (arith, c .before .before .before .before .before .before .before .before .take-piece .ensures .few) in
     omega (arith, z, v .2, c .before .before .before .before .before .before .before .before .before .before .before .before .before .before .before .before .before .before .before .before .before .before .before .before .before .before .good .1 .1 .1 .1 .1 .1 .1 .1 .0 .0)
 
@@ -150,7 +150,7 @@ loop-less c =
     let l = c .before .before .before .before .before .before .before .before .before .before .before .before .before .before .before .before .before .before .line-end .ensures in
     let n : a .at < length (g .text .now) = c .before .before .before .before .before .before .before .before .before .before .before .before .before .before .before .before .before .before .before .before .loop-test .taken in
     let k : 0 < lineLen (drop (a .at) (g .text .now)) = len-positive (drop (a .at) (g .text .now)) (simp length-drop (omega arith)) in
-    let r : lineRoom ≤ length (a .o) - a .w = leb-true 16896 (length (a .o) - a .w) (c .before .before .before .before .before .before .before .before .before .before .before .before .before .before .before .before .before .before .before .if1 .taken) in
+    let r : lineRoom ≤ length (a .o) - a .w = leb-true lineRoom (length (a .o) - a .w) (c .before .before .before .before .before .before .before .before .before .before .before .before .before .before .before .before .before .before .before .if1 .taken) in
     omega (arith, l .0, l .1)
 
 loop-again : tie.Need-loop-again Inv-loop μ-loop
@@ -161,7 +161,7 @@ loop-again c =
     let l = c .before .before .before .before .before .before .before .before .before .before .before .before .before .before .before .before .before .before .line-end .ensures in
     let n : a .at < length (g .text .now) = c .before .before .before .before .before .before .before .before .before .before .before .before .before .before .before .before .before .before .before .before .loop-test .taken in
     let k : 0 < lineLen (drop (a .at) (g .text .now)) = len-positive (drop (a .at) (g .text .now)) (simp length-drop (omega arith)) in
-    let r : lineRoom ≤ length (a .o) - a .w = leb-true 16896 (length (a .o) - a .w) (c .before .before .before .before .before .before .before .before .before .before .before .before .before .before .before .before .before .before .before .if1 .taken) in
+    let r : lineRoom ≤ length (a .o) - a .w = leb-true lineRoom (length (a .o) - a .w) (c .before .before .before .before .before .before .before .before .before .before .before .before .before .before .before .before .before .before .before .if1 .taken) in
     let e = c .before .before .before .before .before .before .before .before .before .before .before .before .before .before .before .before .before .before .line-end .result in (
       l .1,
       search needs,
@@ -179,7 +179,7 @@ loop-less-2 c =
     let l = c .before .before .before .before .before .before .before .before .before .before .before .before .before .before .before .before .before .line-end .ensures in
     let n : a .at < length (g .text .now) = c .before .before .before .before .before .before .before .before .before .before .before .before .before .before .before .before .before .before .before .loop-test .taken in
     let k : 0 < lineLen (drop (a .at) (g .text .now)) = len-positive (drop (a .at) (g .text .now)) (simp length-drop (omega arith)) in
-    let r : lineRoom ≤ length (a .o) - a .w = leb-true 16896 (length (a .o) - a .w) (c .before .before .before .before .before .before .before .before .before .before .before .before .before .before .before .before .before .before .if1 .taken) in
+    let r : lineRoom ≤ length (a .o) - a .w = leb-true lineRoom (length (a .o) - a .w) (c .before .before .before .before .before .before .before .before .before .before .before .before .before .before .before .before .before .before .if1 .taken) in
     omega (arith, l .0, l .1)
 
 loop-again-2 : tie.Need-loop-again-2 Inv-loop μ-loop
@@ -190,7 +190,7 @@ loop-again-2 c =
     let l = c .before .before .before .before .before .before .before .before .before .before .before .before .before .before .before .before .before .line-end .ensures in
     let n : a .at < length (g .text .now) = c .before .before .before .before .before .before .before .before .before .before .before .before .before .before .before .before .before .before .before .loop-test .taken in
     let k : 0 < lineLen (drop (a .at) (g .text .now)) = len-positive (drop (a .at) (g .text .now)) (simp length-drop (omega arith)) in
-    let r : lineRoom ≤ length (a .o) - a .w = leb-true 16896 (length (a .o) - a .w) (c .before .before .before .before .before .before .before .before .before .before .before .before .before .before .before .before .before .before .if1 .taken) in
+    let r : lineRoom ≤ length (a .o) - a .w = leb-true lineRoom (length (a .o) - a .w) (c .before .before .before .before .before .before .before .before .before .before .before .before .before .before .before .before .before .before .if1 .taken) in
     let e = c .before .before .before .before .before .before .before .before .before .before .before .before .before .before .before .before .before .line-end .result in
     let t = c .before .before .before .before .before .before .before .before .take-piece .ensures in (
       l .1,
@@ -212,7 +212,7 @@ returns c =
     let a = c .before .before .loop in
     let g = c .before .before .before .before .before .before .before .before .args in
     let v = a .inv in
-    let h : length (a .o) - a .w < lineRoom = leb-false 16896 (length (a .o) - a .w) (c .if1 .left) in
+    let h : length (a .o) - a .w < lineRoom = leb-false lineRoom (length (a .o) - a .w) (c .if1 .left) in
     doing-end (g .text .now) (now (g .o)) (heldOf (playOf (g .run .pace) (poolOf (g .head) (now (g .numbers)) (now (g .times)) (now (g .states)) (now (g .waiters))) (now (g .scratch))) (g .run .held) (g .run .count)) (record { pace = a .pace; held = a .held; count = a .count }) (poolOf (a .h) (a .numbers) (a .times) (a .states) (a .waiters)) (a .scratch) (a .at) (a .w) (a .o) (v .5) (v .0) (record { holds = v .3; able = v .4 }) (go-short onSlots _ _ _ (omega (arith, v .2)))
 
 same-length-3 : tie.Need-same-length-3 Inv-loop μ-loop

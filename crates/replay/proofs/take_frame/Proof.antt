@@ -4,6 +4,7 @@ use Prim.Native.Nat.{ℕ, _≤_}
 use native.Mathlib.Omega.{arith}
 use denote.Ref.{now}
 use lib.ListN.{length, drop}
+use Rattle.definition.specs.Refusals.{roomRecords}
 use Rattle.definition.specs.Bytes.{frameOfLine}
 use Rattle.slots.specs.View.{poolOf}
 use Rattle.slots.specs.Call.{call}
@@ -50,7 +51,7 @@ cast-k c = search needs
 print-records-requires : tie.Need-print-records-requires
 print-records-requires c κs =
     let a = c .before .before .before .before .before .before .before .before .before .before .before .before .before .before .before .before .before .before .args in
-    let few : c .before .before .before .answer2 .given .0 .0 ≤ 512 = few-of (poolOf (a .head) (now (a .numbers)) (now (a .times)) (now (a .states)) (now (a .waiters))) _ (now (a .scratch)) _ _ _ (c .before .before .before .before .before .before .before .before .call .ensures) (c .before .before .before .before .before .before .before .before .before .before .before .before .before .before .before .before .before .before .pre .1) _ (c .before .before .before .answer2 .given .1) in
+    let few : c .before .before .before .answer2 .given .0 .0 ≤ roomRecords = few-of (poolOf (a .head) (now (a .numbers)) (now (a .times)) (now (a .states)) (now (a .waiters))) _ (now (a .scratch)) _ _ _ (c .before .before .before .before .before .before .before .before .call .ensures) (c .before .before .before .before .before .before .before .before .before .before .before .before .before .before .before .before .before .before .pre .1) _ (c .before .before .before .answer2 .given .1) in
     (omega arith, omega arith)
 
 mul-counted : tie.Need-mul-counted

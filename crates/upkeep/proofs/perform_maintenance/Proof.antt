@@ -8,7 +8,7 @@ use Rattle.slots.specs.Needs.{CanFill}
 use Rattle.slots.specs.DoneLaws.{done-then, done-serial}
 use Rattle.slots.specs.Slots.{maintenance, removePerished, ensureMinConnections, prune}
 use Rattle.refinement.specs.Needs.{whole, can-prune, can-fill-after}
-use Rattle.refinement.specs.Few.{prune-few}
+use Rattle.refinement.specs.RecordRoom.{pruned-few}
 use Rattle.refinement.specs.Leaves.{Leaves, prune-leaves}
 use borrow.Author.Needs.{needs}
 use Rattle.upkeep.proofs.perform_maintenance.Statement.{statement}
@@ -32,7 +32,7 @@ ensure-min-connections-requires c κs =
     let st = r .0 .stands in
     let d = c .before .before .before .before .before .before .before .before .remove-perished-connections .ensures in
     let z = subst (λ (x : SlotPool). Whole x × CanFill x) (sym (d .pool)) (can-fill-after st (r .1)) in
-    let f = prune-few (a .head .«available_count») (poolOf (a .head) (now (a .numbers)) (now (a .times)) (now (a .states)) (now (a .waiters))) .records in
+    let f = pruned-few st in
     (z .0, z .1, (omega (arith, d .count, f, st .table .fits, r .2), omega (arith, d .count, f, st .table .fits)))
 
 same-length : tie.Need-same-length

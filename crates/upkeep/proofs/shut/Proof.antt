@@ -12,7 +12,7 @@ use Rattle.slots.specs.Needs.{CanTell}
 use Rattle.slots.specs.DoneLaws.{done-then, done-emit, done-quiet, done-serial}
 use Rattle.slots.specs.Slots.{shut, closeFront, tellAll, enter}
 use Rattle.refinement.specs.Needs.{whole, can-prune, can-tell-after}
-use Rattle.refinement.specs.Few.{closeFront-few}
+use Rattle.refinement.specs.RecordRoom.{closed-few}
 use borrow.Author.Needs.{needs}
 use Rattle.upkeep.proofs.shut.Statement.{statement}
 use Rattle.upkeep.proofs.shut.Tie as tie
@@ -35,7 +35,7 @@ tell-all-requires c κs =
     let st = r .0 .stands in
     let d = c .before .before .before .before .before .before .before .before .close-available .ensures in
     let z = tells st _ (d .pool) in
-    let f = closeFront-few (a .head .«available_count») (poolOf (a .head) (now (a .numbers)) (now (a .times)) (now (a .states)) (now (a .waiters))) .records in
+    let f = closed-few st in
     let w = z .1 .fits in
     (z .0, z .1, record { kinds = (omega arith, omega arith); zero = (λ _. refl, λ _. refl) }, (omega (arith, d .count, f, w, st .table .fits, r .1), omega (arith, d .count, f, w, st .table .fits)))
 
@@ -47,7 +47,7 @@ emit-requires c κs =
     let st = r .0 .stands in
     let d = c .before .before .before .before .before .before .before .before .before .before .before .before .before .close-available .ensures in
     let d2 = c .before .before .before .before .tell-all .ensures in
-    let f = closeFront-few (a .head .«available_count») (poolOf (a .head) (now (a .numbers)) (now (a .times)) (now (a .states)) (now (a .waiters))) .records in
+    let f = closed-few st in
     let g = told-few _ _ d2 in
     let w = tells st _ (d .pool) .1 .fits in
     omega (arith, d .count, f, g, w, st .table .fits, r .1)
@@ -60,7 +60,7 @@ add-t30 c =
     let st = r .0 .stands in
     let d = c .before .before .before .before .before .before .before .before .before .before .before .before .before .before .before .before .close-available .ensures in
     let d2 = c .before .before .before .before .before .before .before .tell-all .ensures in
-    let f = closeFront-few (a .head .«available_count») (poolOf (a .head) (now (a .numbers)) (now (a .times)) (now (a .states)) (now (a .waiters))) .records in
+    let f = closed-few st in
     let g = told-few _ _ d2 in
     let w = tells st _ (d .pool) .1 .fits in
     omega (arith, d .count, f, g, w, st .table .fits)

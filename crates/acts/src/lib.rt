@@ -12,9 +12,10 @@ ghost use Rattle.slots.specs.Done.{Room, Done};
 ghost use Rattle.slots.specs.Codes.{reasonOf, replyOf, IsReply};
 ghost use Rattle.slots.specs.Needs.{CanCreate, CanClose, CanShelve, CanPrune};
 ghost use Rattle.slots.specs.Slots.{closeAt, shelve, setStateAt, popFront, popBack, createPendingConnection};
-use slots::Numbers;
+use slots::GENERATIONS;
 use slots::Head;
-use definition::SLOTS;
+use slots::Numbers;
+use slots::ORDER;
 use slots::States;
 use slots::Times;
 use slots::Waiters;
@@ -37,7 +38,7 @@ pub fn reply(out: &mut [u8], n: u32, serial: u32, waiter: u64, kind: u8, other: 
     }
 }
 
-// The connection in slot i is closed, and the slot is vacant.
+// The connection in slot i is closed, and the slot is vacant; the record says `other` of it.
 pub fn close_connection(
     head: Head,
     numbers: &mut Numbers,
@@ -48,13 +49,22 @@ pub fn close_connection(
     n: u32,
     i: usize,
     reason: u8,
+    other: u32,
 ) -> Progress
     requires { ⌜ Whole (given head numbers times states waiters) × CanClose (given head numbers times states waiters) i × Room 1 n (now out) × (0 < reason) × (reason ≤ 5) ⌝ }
-    ensures { λ r. ⌜ Done (closeAt (reasonOf reason) i (before head numbers times states waiters)) (head .serial) n (now (out .entry)) (after (r .head) numbers times states waiters) (r .count) (now (out .exit)) ⌝ }
+    ensures { λ r. ⌜ Done (closeAt (reasonOf reason) i other (before head numbers times states waiters)) (head .serial) n (now (out .entry)) (after (r .head) numbers times states waiters) (r .count) (now (out .exit)) ⌝ }
 {
-    table::emit(out, n, head.serial, 4, reason, words::as_u64(numbers[i]), 0);
+    table::emit(
+        out,
+        n,
+        head.serial,
+        4,
+        reason,
+        words::as_u64(numbers[i]),
+        other,
+    );
     numbers[i] = 0;
-    numbers[SLOTS + i] = 0;
+    numbers[GENERATIONS + i] = 0;
     times[i] = 0;
     states[i] = 0;
     let mut h = head;
@@ -79,7 +89,7 @@ pub fn shelve(
     ensures { λ r. ⌜ after r numbers times states waiters ≡ shelve i since (before head numbers times states waiters) .pool ⌝ }
 {
     let k = head.available_count;
-    states[SLOTS + k] = i as u8;
+    states[ORDER + k] = i as u8;
     times[i] = since;
     states[i] = 1;
     let mut h = head;
@@ -133,13 +143,13 @@ pub fn pop_back(
     ensures { λ r. ⌜ after r numbers times states waiters ≡ popBack (before head numbers times states waiters) .pool ⌝ }
 {
     let k = head.available_count - 1;
-    states[SLOTS + k] = 0;
+    states[ORDER + k] = 0;
     let mut h = head;
     h.available_count = k;
     h
 }
 
-// A new connection in the first vacant slot, pending: state 5 for a request, 6 in background.
+// A new connection in a vacant slot, pending: state 5 for a request, 6 in background.
 pub fn create_pending_connection(
     head: Head,
     numbers: &mut Numbers,
@@ -153,12 +163,12 @@ pub fn create_pending_connection(
     requires { ⌜ Whole (given head numbers times states waiters) × CanCreate (given head numbers times states waiters) × Room 1 n (now out) ⌝ }
     ensures { λ r. ⌜ Done (createPendingConnection state (before head numbers times states waiters)) (head .serial) n (now (out .entry)) (after (r .head) numbers times states waiters) (r .count) (now (out .exit)) ⌝ }
 {
-    let i = table::find(numbers, 0);
+    let i = table::find_vacant(numbers);
     let id = head.next_connection_id;
     table::emit(out, n, head.serial, 1, 0, words::as_u64(id), 0);
     let m = head.status;
     numbers[i] = id;
-    numbers[SLOTS + i] = m.generation;
+    numbers[GENERATIONS + i] = m.generation;
     times[i] = head.clock;
     states[i] = state;
     let mut h = head;

@@ -17,13 +17,13 @@ use Rattle.definition.specs.declared.ClosedReason.{ClosedReason}
 use Rattle.slots.specs.Order.{place, placeBy, shifted}
 use Rattle.slots.specs.OrderLaws.{length-shifted}
 use Rattle.slots.specs.Laid.{laid}
-use Rattle.slots.specs.View.{SlotPool, Whole, waiterOf}
+use Rattle.slots.specs.View.{SlotPool, Whole, waiterOf, withWaiters, idAt, staleAt, perishedAt}
 use Rattle.slots.specs.Done.{Room, Done, Underway}
 use Rattle.slots.specs.DoneLaws.{done-then, done-emit, done-quiet, done-nothing, done-serial, done-at, done-as, underway-step, underway-then}
 use Rattle.slots.specs.Codes.{reasonOf, replyOf}
 use Rattle.slots.specs.ActLaws.{perishedNoAt, is-healthy, is-perished, perished-reason, perished-number, closed-whole}
 use Rattle.slots.specs.Needs.{CanCreate, CanClose, CanShelve, CanTake, CanWarm, CanServe}
-use Rattle.slots.specs.Slots.{checkedOutNo, withWaiters, idAt, staleAt, perishedAt, closeAt, shelve, setStateAt, popBack, createPendingConnection, closePerishedAt, canServiceAt, canService, establish, lend, takeFrom, checkOut, dequeue, serveFront, service}
+use Rattle.slots.specs.Slots.{checkedOutNo, closeAt, shelve, setStateAt, popBack, createPendingConnection, closePerishedAt, canServiceAt, canService, establish, lend, takeFrom, checkOut, dequeue, serveFront, service}
 
 -- ── The test ──
 

@@ -47,6 +47,13 @@ pub record Conn : Type 0 where
   pub time : ℕ
   pub state : ConnectionState
 
+-- one that there is not; and one in another state, since the time given
+abbrev pub noConn : (id : ℕ) → Conn
+noConn n = record { id = n; generation = 0; time = 0; state = Vacant }
+
+abbrev pub withState : ConnectionState → (time : ℕ) → Conn → Conn
+withState s t c = record { id = c .id; generation = c .generation; time = t; state = s }
+
 pub record Waiter : Type 0 where
   pub id : ℕ
   pub warm : Bool
@@ -70,6 +77,10 @@ pub record Pool : Type 0 where
 
 abbrev pub fresh : Options → Pool
 fresh o = record { options = o; state = New; generation = 0; nextId = 1; clock = 0; lastRequest = 0; written = 0; available = []; lent = []; pending = []; waiting = [] }
+
+-- a new connection: it takes the next id and the current generation
+abbrev pub newConn : Pool → Purpose → Conn
+newConn p why = record { id = p .nextId; generation = p .generation; time = p .clock; state = Pending why }
 
 -- the pool with another value in one place
 module _ (p : Pool) where
@@ -142,7 +153,7 @@ has n = any? (λ c. c .id =? n)
 
 -- the one of that number; where there is none, a blank one
 abbrev pub find : ℕ → List Conn → Conn
-find n [] = record { id = n; generation = 0; time = 0; state = Vacant }
+find n [] = noConn n
 find n (c ∷ cs) = if c .id =? n then c else find n cs
 
 -- there is one of that number, in such a state
@@ -154,11 +165,7 @@ abbrev pub without : ℕ → List Conn → List Conn
 without n [] = []
 without n (c ∷ cs) = if c .id =? n then cs else c ∷ without n cs
 
--- the connection in another state, since the time given
-abbrev pub withState : ConnectionState → ℕ → Conn → Conn
-withState s t c = record { id = c .id; generation = c .generation; time = t; state = s }
-
--- the list with that one turned
+-- the list with that one in another state
 abbrev pub setState : ConnectionState → ℕ → ℕ → List Conn → List Conn
 setState s t n [] = []
 setState s t n (c ∷ cs) = if c .id =? n then withState s t c ∷ cs else c ∷ setState s t n cs

@@ -14,7 +14,7 @@ pub data Reply : Type 0 where
 
 pub data Record : Type 0 where
   ConnectionCreated ConnectionReady ConnectionCheckedIn : (connection : ℕ) → Record
-  ConnectionClosed : ClosedReason → (connection : ℕ) → Record
+  ConnectionClosed : ClosedReason → (connection other : ℕ) → Record
   PoolReady : Record
   PoolCleared : (timeout : Bool) (cause generation : ℕ) → Record
   PoolShut : Record
@@ -63,7 +63,7 @@ abbrev pub fieldsOf : Record → Fields
 fieldsOf (ConnectionCreated c) = fields 1 0 c 0
 fieldsOf (ConnectionReady c) = fields 2 0 c 0
 fieldsOf (ConnectionCheckedIn c) = fields 3 0 c 0
-fieldsOf (ConnectionClosed r c) = fields 4 (reasonNo r) c 0
+fieldsOf (ConnectionClosed r c other) = fields 4 (reasonNo r) c other
 fieldsOf PoolReady = fields 5 0 0 0
 fieldsOf (PoolCleared timeout cause generation) = fields 6 (if timeout then 1 else 0) cause generation
 fieldsOf PoolShut = fields 7 0 0 0

@@ -33,19 +33,19 @@ if-both {b = false} P f g = g refl
 module _ (n letGo : ℕ) (p : Pool) where
   -- errored closes with 3, whatever the generation and whether or not it is executing,
   pub errored-first : (executing : Bool) → isClosed (p .state) ≡ false
-      → checkIn n true executing letGo p .records ≡ ConnectionCheckedIn n ∷ ConnectionClosed Error n ∷ []
+      → checkIn n true executing letGo p .records ≡ ConnectionCheckedIn n ∷ ConnectionClosed Error n 0 ∷ []
   unfolding checkIn leaveLent if_then_else_ _>>_
   errored-first executing h = rw h
 
   -- else stale with 2, even if executing,
   pub stale-second : (executing : Bool) → isClosed (p .state) ≡ false → stale p (find n (p .lent)) ≡ true
-      → checkIn n false executing letGo p .records ≡ ConnectionCheckedIn n ∷ ConnectionClosed Stale n ∷ []
+      → checkIn n false executing letGo p .records ≡ ConnectionCheckedIn n ∷ ConnectionClosed Stale n 0 ∷ []
   unfolding checkIn leaveLent if_then_else_ _>>_
   stale-second executing h s = rw (h, s)
 
   -- else executing with 4,
   pub executing-third : isClosed (p .state) ≡ false → stale p (find n (p .lent)) ≡ false
-      → checkIn n false true letGo p .records ≡ ConnectionCheckedIn n ∷ ConnectionClosed Dropped n ∷ []
+      → checkIn n false true letGo p .records ≡ ConnectionCheckedIn n ∷ ConnectionClosed Dropped n 0 ∷ []
   unfolding checkIn leaveLent if_then_else_ _>>_
   executing-third h s = rw (h, s)
 
@@ -57,7 +57,7 @@ module _ (n letGo : ℕ) (p : Pool) where
 
   -- of a closed pool only closed 5, whatever the flags
   pub closed-alone : (errored executing : Bool) → isClosed (p .state) ≡ true
-      → checkIn n errored executing letGo p .records ≡ ConnectionClosed PoolClosed n ∷ []
+      → checkIn n errored executing letGo p .records ≡ ConnectionClosed PoolClosed n 0 ∷ []
   unfolding checkIn leaveLent if_then_else_ _>>_
   closed-alone errored executing h = rw h
 
@@ -99,7 +99,7 @@ FrontFails t (c ∷ cs) = t c ≡ false
 
 -- closed as stale, or else as idle
 abbrev pub closing : Pool → Conn → Record
-closing p c = ConnectionClosed (if stale p c then Stale else Idle) (c .id)
+closing p c = ConnectionClosed (if stale p c then Stale else Idle) (c .id) 0
 
 -- Maintenance closes a front part of the available list, front to back. All of the part have perished, and it stops at the first healthy one.
 pub record Pruned (p : Pool) (o : Out Pool) : Type 0 where

@@ -4,7 +4,7 @@ use mathlib.Core.List.{List, [], _∷_, _++_, map, reverse}
 use Prim.Native.Nat.{ℕ, zero, suc, _+_, _-_, min}
 use lib.ListN.{length}
 use Rattle.definition.specs.Words.{if_then_else_, _<?_, _≤?_, _=?_, _∷ʳ_, some?}
-use Rattle.definition.specs.Pool.{Pool, Conn, Waiter, isReady, isClosed, total, stale, perished, find, without, withState, setState, withStatus, withNextId, withLastRequest, withAvailable, withLent, withPending, withWaiting}
+use Rattle.definition.specs.Pool.{Pool, Conn, Waiter, isReady, isClosed, total, stale, perished, find, without, newConn, withState, setState, withStatus, withNextId, withLastRequest, withAvailable, withLent, withPending, withWaiting}
 use Rattle.definition.specs.Records.{Record, ConnectionCreated, ConnectionReady, ConnectionCheckedIn, ConnectionClosed, PoolReady, PoolCleared, PoolShut, Interrupt, Replied, Reply, Pooled, Establishing, Warmed, Cleared, Gone, told}
 use Rattle.definition.specs.Events.{partsOf}
 use Rattle.definition.specs.Types.{Event, CheckOut, WarmPool, Abandon, CheckIn, Clear, MarkAsReady, Succeeded, SucceededForPool, Failed, Maintenance, FillPool, Pin, ReturnToPinner, TakeFromPinner, Close, PoolState, New, Paused, Ready, Closed, InUse, Returned, Purpose, Request, Background, ConnectionState, CheckedIn, CheckedOut, Pinned, Pending, ClosedReason, Idle, Stale, Error, Dropped, PoolClosed}
@@ -43,9 +43,13 @@ leaveLent n p = become (withLent p (without n (p .lent))) p
 unfoldable pub leavePending : ℕ → Act Pool
 leavePending n p = become (withPending p (without n (p .pending))) p
 
--- a connection that has left its list is closed
-abbrev pub close : ClosedReason → ℕ → Act Pool
-close reason n = emit (ConnectionClosed reason n)
+-- a connection that has left its list is closed; nothing more is said of it yet, so `other` is 0
+abbrev pub close : ClosedReason → (connection other : ℕ) → Act Pool
+close reason n other = emit (ConnectionClosed reason n other)
+
+-- closed with its pool
+abbrev pub closedWithPool : Conn → Record
+closedWithPool c = ConnectionClosed PoolClosed (c .id) 0
 
 -- to the back of the available list, available since the time given
 unfoldable pub shelve : Conn → ℕ → Act Pool
@@ -60,7 +64,7 @@ unfoldable pub createPendingConnection : Purpose → Act Pool
 createPendingConnection why p =
     (do
       emit (ConnectionCreated (p .nextId))
-      become (withNextId (withPending p (p .pending ∷ʳ record { id = p .nextId; generation = p .generation; time = p .clock; state = Pending why })) (p .nextId + 1))
+      become (withNextId (withPending p (p .pending ∷ʳ newConn p why)) (p .nextId + 1))
     ) p
 
 unfoldable pub createMany : ℕ → Act Pool
@@ -69,7 +73,7 @@ createMany (suc n) p = (createPendingConnection Background >> createMany n) p
 
 -- an available connection that has perished is closed as stale, else as idle
 unfoldable pub closePerished : Conn → Act Pool
-closePerished c p = close (if stale p c then Stale else Idle) (c .id) p
+closePerished c p = close (if stale p c then Stale else Idle) (c .id) 0 p
 
 -- every waiter, front to back
 unfoldable pub tellAll : Reply → Act Pool
@@ -101,11 +105,11 @@ checkIn n errored executing letGo p =
     let c = find n (p .lent) in
     (do
       leaveLent n
-      if isClosed (p .state) then close PoolClosed n else do
+      if isClosed (p .state) then close PoolClosed n 0 else do
         emit (ConnectionCheckedIn n)
-        if errored then close Error n else
-            if stale p c then close Stale n else
-            if executing then close Dropped n else
+        if errored then close Error n 0 else
+            if stale p c then close Stale n 0 else
+            if executing then close Dropped n 0 else
             shelve c letGo
     ) p
 
@@ -134,12 +138,12 @@ succeededForPool n opened p =
     (do
       emit (ConnectionReady n)
       leavePending n
-      if isClosed (p .state) then close PoolClosed n else shelve (find n (p .pending)) opened
+      if isClosed (p .state) then close PoolClosed n 0 else shelve (find n (p .pending)) opened
     ) p
 
 -- 9: closed with 3.
 unfoldable pub failed : ℕ → Act Pool
-failed n = leavePending n >> close Error n
+failed n = leavePending n >> close Error n 0
 
 -- Maintenance: close from the available front, stale then idle, stopping at the first healthy one;
 unfoldable pub removePerished : (available : List Conn) → Act Pool
@@ -167,7 +171,7 @@ unfoldable pub shut : Act Pool
 shut p =
     (do
       become (withAvailable p [])
-      emitAll (map (λ c. ConnectionClosed PoolClosed (c .id)) (p .available))
+      emitAll (map closedWithPool (p .available))
       tellAll Gone
       emit PoolShut
       enter Closed (p .generation)

@@ -20,6 +20,7 @@ use Rattle.definition.specs.declared.Options.{Options}
 use Rattle.definition.specs.declared.Refusal.{Refusal}
 use Rattle.definition.specs.declared.Refusal.the-variants.{OutputShort, Malformed, OptionsOutOfRange}
 use Rattle.slots.specs.View.{SlotPool, Slot, waiterOf}
+use Rattle.slots.specs.View as View
 use Rattle.slots.specs.Slots as S
 use Rattle.slots.specs.Done.{lay}
 use Rattle.slots.specs.Call.{call}
@@ -30,7 +31,8 @@ use Rattle.refinement.specs.Stands.{Stands, Formed}
 use Rattle.refinement.specs.Rules.{Rules, listsOf, rules-stand, formed-rules}
 use Rattle.refinement.specs.Transit.{counted}
 use Rattle.refinement.specs.Call.{call-refines, refines-stands}
-use Rattle.refinement.specs.Formed.{freshSlots, fresh-stands, fresh-formed, call-formed, Lent, asCall, ran, wrote, writes, run-refines}
+use Rattle.refinement.specs.Alike.{freshSlots}
+use Rattle.refinement.specs.Formed.{fresh-stands, fresh-formed, call-formed, Lent, asCall, ran, wrote, writes, run-refines}
 use Rattle.event.specs.Laws.{call-short}
 use Rattle.rules.specs.Tests.{keepsRules}
 use Rattle.pool.specs.View.{idOf, viewOf, poolFrom}
@@ -69,8 +71,8 @@ formed-keeps p f = keeps-exact p (formed-typed p f) .complete (formed-rules (vie
 formed-back : (v : SlotPool) → Formed v → viewOf (poolFrom v) ≡ v
 formed-back v f =
     let r = formed-rules v f in
-    view-back v (r .columns .slots ∙ sym (r .columns .ids)) (λ j. by-eq (S.idAt v j) 0
-    (λ e. let z : S.slotAt v j .state ≡ 0 = ap (λ (s : Slot). s .state) (r .blank j e) in omega (arith, z))
+    view-back v (r .columns .slots ∙ sym (r .columns .ids)) (λ j. by-eq (View.idAt v j) 0
+    (λ e. let z : View.slotAt v j .state ≡ 0 = ap (λ (s : Slot). s .state) (r .blank j e) in omega (arith, z))
     (λ n. r .used j (omega (arith, n)) .1))
 
 module _ (p : Pool) (f : Formed (viewOf p)) (b l : List ℕ) where

@@ -17,10 +17,10 @@ use Rattle.definition.specs.declared.Frame.{Frame}
 use Rattle.definition.specs.declared.Frame.the-variants.{Good, Bad}
 use Rattle.definition.specs.declared.Refusal.{Refusal}
 use Rattle.definition.specs.declared.Refusal.the-variants.{OutputShort, Malformed}
-use Rattle.slots.specs.View.{SlotPool, Whole}
+use Rattle.slots.specs.View.{SlotPool, Whole, withClock, withSerial}
 use Rattle.slots.specs.Done.{Room, Done}
 use Rattle.slots.specs.Needs.{CanServe}
-use Rattle.slots.specs.Slots.{handle, event, service, withClock, withSerial}
+use Rattle.slots.specs.Slots.{handle, event, service}
 use Rattle.slots.specs.Call.{target, verdict, World, world, accepted, judged, step, call, numbersSpent}
 use Rattle.slots.specs.declared.Verdict.the-variants.{Refuse, Accept}
 use Rattle.slots.specs.declared.Outcome.the-variants.{Refused, Accepted}

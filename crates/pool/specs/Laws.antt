@@ -12,10 +12,9 @@ use Rattle.definition.specs.declared.ConnectionState.the-variants.{Vacant, Chec
 use Rattle.definition.specs.declared.PinnedState.the-variants.{InUse, Returned}
 use Rattle.definition.specs.declared.Purpose.the-variants.{Request, Background}
 use Rattle.slots.specs.View as Of
-use Rattle.slots.specs.View.{SlotPool, poolOf}
+use Rattle.slots.specs.View.{SlotPool, poolOf, vacant}
 use Rattle.slots.specs.Columns.{front-kept, back-put}
 use Rattle.slots.specs.Parts.{row-at}
-use Rattle.slots.specs.Slots.{vacant}
 use Rattle.pool.specs.View.{idOf, generationOf, timeOf, codeOf, seen, viewOf, numbersOf, timesOf, statesOf, stateOf, slotOf, together, poolFrom}
 use Rattle.pool.specs.declared.Slot.{Slot}
 use Rattle.pool.specs.declared.Pool.{Pool}

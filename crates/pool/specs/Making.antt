@@ -8,7 +8,7 @@ use Rattle.definition.specs.declared.Options.{Options}
 use Rattle.definition.specs.declared.Refusal.{Refusal}
 use Rattle.definition.specs.declared.Refusal.the-variants.{Malformed, OptionsOutOfRange}
 use Rattle.slots.specs.declared.Outcome.the-variants.{Refused, Accepted}
-use Rattle.refinement.specs.Formed.{freshHead}
+use Rattle.refinement.specs.Alike.{freshHead}
 use Rattle.pool.specs.View.{slotOf}
 use Rattle.pool.specs.declared.Pool.{Pool}
 use Rattle.pool.specs.declared.Made.{Made}

@@ -3,7 +3,7 @@ ghost use mathlib.Core.Path.{_≡_};
 ghost use Prim.Native.Nat.{_-_};
 ghost use Rattle.definition.specs.Pool.{stateNo, orDefault, withDefaults, inRange};
 ghost use Rattle.definition.specs.Bytes.{optionsOf};
-ghost use Rattle.refinement.specs.Formed.{freshHead};
+ghost use Rattle.refinement.specs.Alike.{freshHead};
 ghost use Rattle.pool.specs.View.{stateOf, slotOf};
 ghost use Rattle.pool.specs.Laws.{Apart, Again};
 ghost use Rattle.pool.specs.Making.{freshPool, notMade, making, makingFrom, countsOf};

@@ -7,8 +7,8 @@ use native.Mathlib.Omega.{arith}
 use Rattle.definition.specs.Laws.{find-id}
 use Rattle.definition.specs.Words.{if_then_else_}
 use Rattle.definition.specs.Pool.{Pool, Conn, Waiter, has, find, withClock, withAvailable, fresh}
-use Rattle.definition.specs.Records.{Record, ConnectionClosed, Reply, told}
-use Rattle.definition.specs.Steps.{Out, Act, _>>_, close, emitAll, become, leaveLent, leavePending, shelve, lendOut, createPendingConnection, createMany, closePerished, tellAll, enter, queue, request, abandon, checkIn, clear, markAsReady, succeeded, succeededForPool, failed, removePerished, ensureMinConnections, maintenance, repin, shut, handle, establish, lend, takeAvailable, checkOut, serveFront, service, event}
+use Rattle.definition.specs.Records.{Record, Reply, told}
+use Rattle.definition.specs.Steps.{closedWithPool, Out, Act, _>>_, close, emitAll, become, leaveLent, leavePending, shelve, lendOut, createPendingConnection, createMany, closePerished, tellAll, enter, queue, request, abandon, checkIn, clear, markAsReady, succeeded, succeededForPool, failed, removePerished, ensureMinConnections, maintenance, repin, shut, handle, establish, lend, takeAvailable, checkOut, serveFront, service, event}
 use Rattle.definition.specs.Refusals.{Result, Call, after, run}
 use Rattle.definition.specs.declared.Options.{Options}
 use Rattle.definition.specs.declared.Event.{Event}
@@ -70,13 +70,13 @@ leavePending-moves : (n : ℕ) (p : Pool) → has n (p .pending) ≡ true → Mo
 unfolding leavePending held sumOf
 leavePending-moves n p h = record { even = λ w. omega (arith, sum-without w n (p .pending) h) }
 
-close-moves : (r : ClosedReason) (n : ℕ) (p : Pool) → Moves (n ∷ []) [] p (close r n p)
+close-moves : (r : ClosedReason) (n other : ℕ) (p : Pool) → Moves (n ∷ []) [] p (close r n other p)
 unfolding sumOf
-close-moves r n p = record { even = λ w. omega arith }
+close-moves r n other p = record { even = λ w. omega arith }
 
 closePerished-moves : (c : Conn) (p : Pool) → Moves (c .id ∷ []) [] p (closePerished c p)
 unfolding closePerished
-closePerished-moves c p = close-moves _ (c .id) p
+closePerished-moves c p = close-moves _ (c .id) _ p
 
 shelve-moves : (c : Conn) (t n : ℕ) (p : Pool) → c .id ≡ n → Moves (n ∷ []) [] p (shelve c t p)
 unfolding shelve held sumOf
@@ -122,7 +122,7 @@ unfolding removePerished closePerished
 removePerished-moves [] p e = still _ _ refl refl refl refl refl
 removePerished-moves (c ∷ cs) p e =
     moves-if _ _ p
-    (λ _. moves-then _ _ p (take-moves c cs cs p (λ w. rw e) (λ w. refl)) (moves-then _ _ _ (close-moves _ (c .id) _) (removePerished-moves cs _ refl)))
+    (λ _. moves-then _ _ p (take-moves c cs cs p (λ w. rw e) (λ w. refl)) (moves-then _ _ _ (close-moves _ (c .id) _ _) (removePerished-moves cs _ refl)))
     (λ _. still _ _ refl refl refl refl refl)
 
 ruleset moving = (then₀, moves-if, create-moves, createMany-moves, tellAll-moves, close-moves, removePerished-moves, still)
@@ -143,7 +143,7 @@ checkIn-moves : (n : ℕ) (errored executing : Bool) (letGo : ℕ) (p : Pool) �
 unfolding checkIn
 checkIn-moves n errored executing letGo p h =
     moves-then _ _ _ (leaveLent-moves n p h)
-    (moves-if _ _ _ (λ _. close-moves _ n _)
+    (moves-if _ _ _ (λ _. close-moves _ n _ _)
     (λ _. moves-then _ _ _ (still _ _ refl refl refl refl refl)
     (search (moves-if, close-moves, shelve-moves, find-id) depth 8)))
 
@@ -159,7 +159,7 @@ succeededForPool-moves n opened p h =
 
 failed-moves : (n : ℕ) (p : Pool) → has n (p .pending) ≡ true → Moves [] [] p (failed n p)
 unfolding failed
-failed-moves n p h = moves-then _ _ _ (leavePending-moves n p h) (close-moves _ n _)
+failed-moves n p h = moves-then _ _ _ (leavePending-moves n p h) (close-moves _ n _ _)
 
 pub refill-moves : (p : Pool) → Moves [] [] p (ensureMinConnections p)
 unfolding ensureMinConnections
@@ -169,11 +169,11 @@ repin-moves : (s : ConnectionState) (n : ℕ) (p : Pool) → Moves [] [] p (repi
 unfolding repin held
 repin-moves s n p = record { even = λ w. rw turn-numbers }
 
-shutting-closed : (l : List Conn) → closed (map (λ c. ConnectionClosed PoolClosed (c .id)) l) ≡ numbers l
+shutting-closed : (l : List Conn) → closed (map closedWithPool l) ≡ numbers l
 shutting-closed [] = refl
 shutting-closed (c ∷ l) = ap (λ r. c .id ∷ r) (shutting-closed l)
 
-pub shutting-created : (l : List Conn) → created (map (λ c. ConnectionClosed PoolClosed (c .id)) l) ≡ []
+pub shutting-created : (l : List Conn) → created (map closedWithPool l) ≡ []
 shutting-created [] = refl
 shutting-created (c ∷ l) = shutting-created l
 
@@ -181,7 +181,7 @@ empty-moves : (p : Pool) → Moves [] (numbers (p .available)) p (become (withAv
 unfolding held sumOf
 empty-moves p = record { even = λ w. omega arith }
 
-shutting-moves : (l : List Conn) (p : Pool) → Moves (numbers l) [] p (emitAll (map (λ c. ConnectionClosed PoolClosed (c .id)) l) p)
+shutting-moves : (l : List Conn) (p : Pool) → Moves (numbers l) [] p (emitAll (map closedWithPool l) p)
 unfolding sumOf
 shutting-moves l p = record { even = λ w. rw (shutting-closed, shutting-created) (omega arith) }
 
@@ -226,7 +226,7 @@ takeAvailable-moves w [] p h = establish-moves w p
 takeAvailable-moves w (c ∷ cs) p h =
     moves-then _ _ p (take-moves c cs (reverse cs) p h (λ v. sum-reverse v cs))
     (moves-if _ _ _
-    (λ _. moves-then _ _ _ (close-moves _ (c .id) _) (takeAvailable-moves w cs _ (λ v. sym (sum-reverse v cs))))
+    (λ _. moves-then _ _ _ (close-moves _ (c .id) _ _) (takeAvailable-moves w cs _ (λ v. sym (sum-reverse v cs))))
     (λ _. lend-moves w c _))
 
 checkOut-moves : (w : Waiter) (p : Pool) → Moves [] [] p (checkOut w p)

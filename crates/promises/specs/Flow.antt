@@ -6,8 +6,8 @@ use Prim.Native.Nat.{ℕ, zero, suc, _+_}
 use lib.ListN.{length}
 use Rattle.definition.specs.Words.{if_then_else_, _=?_}
 use Rattle.definition.specs.Pool.{Pool, Conn, Waiter, isReady, isClosed, withClock, withWaiting, fresh}
-use Rattle.definition.specs.Records.{Record, ConnectionClosed, PoolCleared, Interrupt, Reply, Cleared}
-use Rattle.definition.specs.Steps.{Out, Act, _>>_, nothing, emit, leaveLent, leavePending, shelve, lendOut, createPendingConnection, createMany, closePerished, tellAll, enter, queue, request, abandon, checkIn, clear, markAsReady, succeeded, succeededForPool, failed, removePerished, ensureMinConnections, maintenance, repin, shut, handle, canService, serveFront, service, event}
+use Rattle.definition.specs.Records.{Record, PoolCleared, Interrupt, Reply, Cleared}
+use Rattle.definition.specs.Steps.{closedWithPool, Out, Act, _>>_, nothing, emit, leaveLent, leavePending, shelve, lendOut, createPendingConnection, createMany, closePerished, tellAll, enter, queue, request, abandon, checkIn, clear, markAsReady, succeeded, succeededForPool, failed, removePerished, ensureMinConnections, maintenance, repin, shut, handle, canService, serveFront, service, event}
 use Rattle.definition.specs.Refusals.{takenAfterClose, Result, Call, after, run}
 use Rattle.definition.specs.declared.Options.{Options}
 use Rattle.definition.specs.declared.Event.{Event}
@@ -41,7 +41,7 @@ quiet p o e w = record { same = rw (e, w, append-nil) }
 
 -- ── Parts ──────────────────────────────────────────────────────────────────────────────────────────────────────────────
 
-shuttings : (l : List Conn) → answered (map (λ c. ConnectionClosed PoolClosed (c .id)) l) ≡ []
+shuttings : (l : List Conn) → answered (map closedWithPool l) ≡ []
 shuttings [] = refl
 shuttings (c ∷ l) = shuttings l
 

@@ -8,7 +8,7 @@ use lib.ListN.{getD, length-append}
 use Rattle.definition.specs.Laws.{find-id}
 use Rattle.definition.specs.Words.{if_then_else_}
 use Rattle.definition.specs.Pool as P
-use Rattle.definition.specs.Pool.{slotCount, Pool, Conn, find, stateNo}
+use Rattle.definition.specs.Pool.{slotCount, Pool, Conn, staleIn, find, stateNo}
 use Rattle.definition.specs.Records.{Record, ConnectionClosed}
 use Rattle.definition.specs.Steps as D
 use Rattle.definition.specs.Steps.{Out, Act, nothing, emit, _>>_}
@@ -17,15 +17,15 @@ use Rattle.definition.specs.declared.ConnectionState.{ConnectionState}
 use Rattle.definition.specs.declared.ConnectionState.the-variants.{CheckedIn, CheckedOut, Pending}
 use Rattle.definition.specs.declared.Purpose.{Purpose}
 use Rattle.definition.specs.declared.Purpose.the-variants.{Request, Background}
-use Rattle.slots.specs.Order.{place}
-use Rattle.slots.specs.OrderLaws.{place-found}
-use Rattle.slots.specs.View.{SlotPool, Slot}
+use Rattle.slots.specs.Order.{vacantSlot}
+use Rattle.slots.specs.Finding.{vacant-at, vacant-found}
+use Rattle.slots.specs.View.{SlotPool, Slot, vacant, slot}
+use Rattle.slots.specs.View as View
 use Rattle.slots.specs.Slots as S
-use Rattle.slots.specs.Slots.{vacant}
-use Rattle.refinement.specs.Table.{Fresh, cell, has-it, one, one-pos, one-zero, taken-put}
+use Rattle.refinement.specs.Table.{Fresh, cell, connIn, has-it, one, one-pos, one-zero, taken-put}
 use Rattle.refinement.specs.Mirror.{isLent, isPending, mirror-put, unlisted, same, into, inIds}
-use Rattle.refinement.specs.Stands.{Alike, Stands, Same}
-use Rattle.refinement.specs.Order.{place-vacant}
+use Rattle.refinement.specs.Alike.{Alike, alike-table, alike-created}
+use Rattle.refinement.specs.Stands.{Stands, Same}
 use Rattle.refinement.specs.Transit.{Off, seen, off-lent, off-pending, set-lent, onto-nothing, onto-lent, onto-back}
 
 -- ── One act after another ──────────────────────────────────────────────────────────────────────────────────────────────
@@ -65,48 +65,52 @@ pub record Transit (p : SlotPool) (m : Pool) (i : ℕ) : Type 0 where
   pub alike : Alike p m
   pub off : Off (p .ids) (p .slots) (p .available) (p .availables) (p .total) (p .pendings) (p .nextId) (m .available) (m .lent) (m .pending) i
 
--- the connections may change
-pub alike-table : {p : SlotPool} {m : Pool} {xs : List ℕ} {ss : List Slot} {order : List ℕ} {n t c : ℕ} {av le pe : List Conn} → Alike p m
-    → Alike (S.withAvailable (S.withCounts (S.withTable p xs ss) t c) order n) (P.withAvailable (P.withLent (P.withPending m pe) le) av)
-alike-table a = record { options = a .options; state = a .state; generation = a .generation; nextId = a .nextId; clock = a .clock; lastRequest = a .lastRequest; serial = a .serial; limits = a .limits; queue = a .queue }
-
-pub closeAt-same : (r : ClosedReason) (i n : ℕ) (p : SlotPool) (m : Pool) → Transit p m i → S.idAt p i ≡ n → Same (S.closeAt r i p) (D.close r n m)
+pub closeAt-same : (r : ClosedReason) (i n other : ℕ) (p : SlotPool) (m : Pool) → Transit p m i → View.idAt p i ≡ n → Same (S.closeAt r i other p) (D.close r n other m)
 unfolding S.closeAt _>>_
-closeAt-same r i n p m tr e = record { records = ap (λ (x : ℕ). ConnectionClosed r x ∷ []) e; stands = record { alike = alike-table (tr .alike); table = onto-nothing (tr .off) } }
+closeAt-same r i n other p m tr e = record { records = ap (λ (x : ℕ). ConnectionClosed r x other ∷ []) e; stands = record { alike = alike-table (tr .alike); table = onto-nothing (tr .off) } }
 
--- x is the connection of slot i
+-- x is the connection of slot i: whatever state it is put in, and when, it is what the slot shows then
 abbrev pub Is : SlotPool → ℕ → Conn → Type 0
-Is p i x = (x .id ≡ S.idAt p i) × (x .generation ≡ S.slotAt p i .generation)
+Is p i x = (q : ConnectionState) (t : ℕ) → P.withState q t x ≡ connIn (View.idAt p i) (View.withState (stateNo q) t (View.slotAt p i)) q
+
+is-found : (n : ℕ) (s : Slot) (x : Conn) → x .id ≡ n → cell x ≡ s → (q : ConnectionState) (t : ℕ) → P.withState q t x ≡ connIn n (View.withState (stateNo q) t s) q
+is-found n s x e f q t = rw (e, ← f)
+
+pub is-stale : {p : SlotPool} {m : Pool} (i : ℕ) (x : Conn) → Alike p m → Is p i x → View.staleAt p i ≡ P.stale m x
+is-stale {p} {m} i x a is =
+    ap (λ (g : ℕ). staleIn g (View.slotAt p i .generation)) (a .generation)
+    ∙ ap (λ (c : Conn). staleIn (m .generation) (c .generation)) (sym (is CheckedIn 0))
 
 pub shelve-same : (i t : ℕ) (x : Conn) (p : SlotPool) (m : Pool) → Transit p m i → Is p i x → Same (S.shelve i t p) (D.shelve x t m)
 unfolding S.shelve D.shelve
-shelve-same i t x p m tr is =
-    let s : Slot = S.withState 1 t (S.slotAt p i) in
-    let e : P.withState CheckedIn t x ≡ record { id = S.idAt p i; generation = s .generation; time = s .time; state = CheckedIn } = rw (is .0, is .1) in
-    record { records = refl; stands = record { alike = alike-table (tr .alike); table = onto-back (tr .off) s (P.withState CheckedIn t x) refl e } }
+shelve-same i t x p m tr is = record {
+  records = refl;
+  stands = record { alike = alike-table (tr .alike); table = onto-back (tr .off) (View.withState 1 t (View.slotAt p i)) (P.withState CheckedIn t x) refl (is CheckedIn t) };
+}
 
 pub lendOut-same : (i : ℕ) (x : Conn) (p : SlotPool) (m : Pool) → Transit p m i → Is p i x → Same (S.setStateAt S.checkedOutNo i p) (D.lendOut x m)
 unfolding S.setStateAt D.lendOut
 lendOut-same i x p m tr is =
-    let s : Slot = S.withState 2 (p .clock) (S.slotAt p i) in
-    let e : cell (P.withState CheckedOut (m .clock) x) ≡ s = rw (is .1, tr .alike .clock) in
-    record { records = refl; stands = record { alike = alike-table (tr .alike); table = onto-lent (tr .off) s (P.withState CheckedOut (m .clock) x) refl (is .0) e } }
+    let s : Slot = View.withState 2 (p .clock) (View.slotAt p i) in
+    let y : Conn = P.withState CheckedOut (m .clock) x in
+    let e : y ≡ connIn (View.idAt p i) s CheckedOut = ap (λ (t : ℕ). P.withState CheckedOut t x) (sym (tr .alike .clock)) ∙ is CheckedOut (p .clock) in
+    record { records = refl; stands = record { alike = alike-table (tr .alike); table = onto-lent (tr .off) s y refl (ap (λ (c : Conn). c .id) e) (ap cell e) } }
 
 -- a lent connection, a pending one: it leaves its list
 module _ {p : SlotPool} {m : Pool} (st : Stands p m) (i : ℕ) (low : i < slotCount) where
   abbrev n : ℕ
-  n = S.idAt p i
+  n = View.idAt p i
 
-  module _ (h : isLent (S.slotAt p i .state) ≡ true) where
+  module _ (h : isLent (View.slotAt p i .state) ≡ true) where
     pub lent-transit : Transit p (D.leaveLent n m .pool) i
     unfolding D.leaveLent
     lent-transit = record { alike = alike-table (st .alike); off = off-lent (st .table) i low h }
 
-    pub lent-cell : (P.has n (m .lent) ≡ true) × (cell (find n (m .lent)) ≡ S.slotAt p i)
-    lent-cell = has-it n (m .lent) (S.slotAt p i) (seen (st .table) i low isLent refl h (st .table .mirror .lent))
+    pub lent-cell : (P.has n (m .lent) ≡ true) × (cell (find n (m .lent)) ≡ View.slotAt p i)
+    lent-cell = has-it n (m .lent) (View.slotAt p i) (seen (st .table) i low isLent refl h (st .table .mirror .lent))
 
     pub lent-is : Is p i (find n (m .lent))
-    lent-is = (find-id n (m .lent), ap (λ (x : Slot). x .generation) (lent-cell .1))
+    lent-is = is-found n (View.slotAt p i) (find n (m .lent)) (find-id n (m .lent)) (lent-cell .1)
 
     pub repin-same : (q : ConnectionState) → isLent (stateNo q) ≡ true → Same (S.setStateAt (stateNo q) i p) (D.repin q n m)
     unfolding S.setStateAt D.repin
@@ -115,23 +119,21 @@ module _ {p : SlotPool} {m : Pool} (st : Stands p m) (i : ℕ) (low : i < slotCo
       stands = record { alike = alike-table (st .alike); table = rw (← st .alike .clock) (set-lent (st .table) i low q (p .clock) hq h) };
     }
 
-  module _ (h : isPending (S.slotAt p i .state) ≡ true) where
+  module _ (h : isPending (View.slotAt p i .state) ≡ true) where
     pub pending-transit : Transit (S.leavePending p .pool) (D.leavePending n m .pool) i
     unfolding D.leavePending S.leavePending
     pending-transit = record { alike = alike-table (st .alike); off = off-pending (st .table) i low h }
 
-    pub pending-cell : (P.has n (m .pending) ≡ true) × (cell (find n (m .pending)) ≡ S.slotAt p i)
-    pending-cell = has-it n (m .pending) (S.slotAt p i) (seen (st .table) i low isPending refl h (st .table .mirror .pending))
+    pub pending-cell : (P.has n (m .pending) ≡ true) × (cell (find n (m .pending)) ≡ View.slotAt p i)
+    pending-cell = has-it n (m .pending) (View.slotAt p i) (seen (st .table) i low isPending refl h (st .table .mirror .pending))
 
     pub pending-is : Is p i (find n (m .pending))
-    pending-is = (find-id n (m .pending), ap (λ (x : Slot). x .generation) (pending-cell .1))
+    pending-is = is-found n (View.slotAt p i) (find n (m .pending)) (find-id n (m .pending)) (pending-cell .1)
 
 -- ── Created ────────────────────────────────────────────────────────────────────────────────────────────────────────────
 
-pub vacancy : {p : SlotPool} {m : Pool} → Stands p m → p .total < slotCount → place 0 slotCount (p .ids) < slotCount
-vacancy {p} st h =
-    let l = st .table .mirror .longIds in
-    rw l at (place-vacant (p .ids) (omega (arith, st .table .holds)))
+pub vacancy : {p : SlotPool} {m : Pool} → Stands p m → p .total < slotCount → vacantSlot (p .ids) < slotCount
+vacancy {p} st h = vacant-found (p .ids) (st .table .mirror .longIds) (omega (arith, st .table .holds))
 
 -- the number of what a connection is pending for
 abbrev pub pendingNo : Purpose → ℕ
@@ -152,15 +154,15 @@ used-no Background = omega arith
 pub create-same : (why : Purpose) (p : SlotPool) (m : Pool) → Stands p m → p .total < slotCount → Same (S.createPendingConnection (pendingNo why) p) (D.createPendingConnection why m)
 unfolding S.createPendingConnection D.createPendingConnection _>>_
 create-same why p m st h =
-    let low : place 0 slotCount (p .ids) < slotCount = vacancy st h in
+    let low : vacantSlot (p .ids) < slotCount = vacancy st h in
     let tb = st .table in
     let k = tb .mirror in
-    let i = place 0 slotCount (p .ids) in
+    let i = vacantSlot (p .ids) in
     let n = p .nextId in
-    let s : Slot = record { generation = p .generation; time = p .clock; state = pendingNo why } in
-    let x : Conn = record { id = m .nextId; generation = m .generation; time = m .clock; state = Pending why } in
+    let s : Slot = slot (p .generation) (p .clock) (pendingNo why) in
+    let x : Conn = P.newConn m why in
     let e : cell x ≡ s = rw (st .alike .generation, st .alike .clock) in
-    let z : getD (p .ids) i 0 ≡ 0 = place-found (λ v. v) 0 slotCount (p .ids) low in
+    let z : getD (p .ids) i 0 ≡ 0 = vacant-at (p .ids) low in
     let b : getD (p .slots) i vacant ≡ vacant = k .blank i z in
     let b0 : getD (p .slots) i vacant .state ≡ 0 = ap (λ (y : Slot). y .state) b in
     let fr : Fresh (p .ids) i n = λ j a q e. absurd (omega (arith, k .below j, e)) in
@@ -169,7 +171,7 @@ create-same why p m st h =
     record {
       records = rw (st .alike .nextId);
       stands = record {
-        alike = record { options = st .alike .options; state = st .alike .state; generation = st .alike .generation; nextId = ap (λ (y : ℕ). y + 1) (st .alike .nextId); clock = st .alike .clock; lastRequest = st .alike .lastRequest; serial = st .alike .serial; limits = st .alike .limits; queue = st .alike .queue };
+        alike = alike-created (st .alike);
         table = record {
           mirror = mirror-put k i low n s (n + 1) (unlisted k i low (λ q. omega arith)) fr (λ q. absurd (omega arith)) (λ _. used-no why) (omega arith) (omega arith)
               (same k i low isLent n s fr (k .lent) (λ q. absurd (omega arith)) (λ _. not-lent-no why))

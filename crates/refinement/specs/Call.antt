@@ -4,7 +4,6 @@ use mathlib.Core.Bool.{Bool, true, false}
 use mathlib.Core.List.{List}
 use mathlib.Core.Option.{Option, none, some}
 use Prim.Native.Nat.{ℕ, _+_}
-use native.Mathlib.Nat.{mod-add-mod}
 use native.Mathlib.Omega.{arith}
 use lib.ListN.{length}
 use Rattle.definition.specs.Words.{if_then_else_, _<?_}
@@ -22,11 +21,13 @@ use Rattle.definition.specs.declared.Frame.the-variants.{Good, Bad}
 use Rattle.definition.specs.declared.Refusal.{Refusal}
 use Rattle.definition.specs.declared.Refusal.the-variants.{OutputShort, Malformed}
 use Rattle.slots.specs.View.{SlotPool}
+use Rattle.slots.specs.View as View
 use Rattle.slots.specs.Slots as S
 use Rattle.slots.specs.Done.{lay}
 use Rattle.slots.specs.Call as C
 use Rattle.slots.specs.Call.{World, world, target}
 use Rattle.slots.specs.declared.Outcome.the-variants.{Refused, Accepted}
+use Rattle.refinement.specs.Alike.{alike-clock, alike-counted}
 use Rattle.refinement.specs.Stands.{Stands}
 use Rattle.refinement.specs.Events.{Fit, fit-clock, event-same}
 use Rattle.refinement.specs.Tests.{eventTests, tests-same, tests-passed}
@@ -58,37 +59,21 @@ accepted p l w o t = record {
 -- ── An accepted event ──────────────────────────────────────────────────────────────────────────────────────────────────
 
 -- time passes
-pub clock-stands : {p : SlotPool} {m : Pool} (now : ℕ) → Stands p m → Stands (S.withClock p now) (P.withClock m now)
-clock-stands now st = record {
-  alike = record { options = st .alike .options; state = st .alike .state; generation = st .alike .generation; nextId = st .alike .nextId; clock = refl; lastRequest = st .alike .lastRequest; serial = st .alike .serial; limits = st .alike .limits; queue = st .alike .queue };
-  table = st .table;
-}
+pub clock-stands : {p : SlotPool} {m : Pool} (now : ℕ) → Stands p m → Stands (View.withClock p now) (P.withClock m now)
+clock-stands now st = record { alike = alike-clock (st .alike) now; table = st .table }
 
 -- k records are counted
-counted-stands : {q : SlotPool} {m : Pool} (s k : ℕ) → Stands q m → q .serial ≡ s → Stands (S.withSerial q (serialOf (s + k))) (P.withWritten m (m .written + k))
-counted-stands {q} {m} s k st e = record {
-  alike = record {
-    options = st .alike .options;
-    state = st .alike .state;
-    generation = st .alike .generation;
-    nextId = st .alike .nextId;
-    clock = st .alike .clock;
-    lastRequest = st .alike .lastRequest;
-    serial = ap (λ (x : ℕ). serialOf (x + k)) (sym e ∙ st .alike .serial) ∙ mod-add-mod (m .written) 4294967296 k;
-    limits = st .alike .limits;
-    queue = st .alike .queue;
-  };
-  table = st .table;
-}
+counted-stands : {q : SlotPool} {m : Pool} (s k : ℕ) → Stands q m → q .serial ≡ s → Stands (View.withSerial q (serialOf (s + k))) (P.withWritten m (m .written + k))
+counted-stands s k st e = record { alike = alike-counted (st .alike) s k e; table = st .table }
 
 pub takes : (p : SlotPool) (m : Pool) (l : List ℕ) (e : Event) (now : ℕ) → Stands p m → Fit e p (target p e)
-    → Takes p l (C.accepted p l (S.event e (target p e) (S.withClock p now))) (counted (D.event e (P.withClock m now)))
+    → Takes p l (C.accepted p l (S.event e (target p e) (View.withClock p now))) (counted (D.event e (P.withClock m now)))
 takes p m l e now st f =
-    let o = S.event e (target p e) (S.withClock p now) in
-    let s = event-same e (target p e) (S.withClock p now) (P.withClock m now) (clock-stands now st) (fit-clock now p (target p e) e f) in
-    let kept : o .pool .serial ≡ p .serial = event-leaves e (target p e) (S.withClock p now) .serial in
+    let o = S.event e (target p e) (View.withClock p now) in
+    let s = event-same e (target p e) (View.withClock p now) (P.withClock m now) (clock-stands now st) (fit-clock now p (target p e) e f) in
+    let kept : o .pool .serial ≡ p .serial = event-leaves e (target p e) (View.withClock p now) .serial in
     record {
-      pool = subst (λ (rs : List Record). Stands (S.withSerial (o .pool) (serialOf (p .serial + length (o .records)))) (P.withWritten (D.event e (P.withClock m now) .pool) (D.event e (P.withClock m now) .pool .written + length rs))) (s .records)
+      pool = subst (λ (rs : List Record). Stands (View.withSerial (o .pool) (serialOf (p .serial + length (o .records)))) (P.withWritten (D.event e (P.withClock m now) .pool) (D.event e (P.withClock m now) .pool .written + length rs))) (s .records)
           (counted-stands (p .serial) (length (o .records)) (s .stands) kept);
       out = ap (λ (rs : List Record). lay (p .serial) 0 rs l) (s .records);
       outcome = ap (λ (rs : List Record). Accepted (length rs)) (s .records);

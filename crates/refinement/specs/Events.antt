@@ -11,6 +11,7 @@ use Rattle.definition.specs.declared.Event.the-variants.{CheckOut, WarmPool, Ab
 use Rattle.definition.specs.declared.ConnectionState.the-variants.{Pinned}
 use Rattle.definition.specs.declared.PinnedState.the-variants.{InUse, Returned}
 use Rattle.slots.specs.View.{SlotPool}
+use Rattle.slots.specs.View as View
 use Rattle.slots.specs.Slots as S
 use Rattle.refinement.specs.Agree.{Class}
 use Rattle.refinement.specs.Mirror.{isLent, isPending}
@@ -23,8 +24,8 @@ use Rattle.refinement.specs.Service.{service-same}
 -- slot i holds the connection n, in a state of the class
 pub record Holds (t : Class) (n : ℕ) (p : SlotPool) (i : ℕ) : Type 0 where
   pub slot : i < slotCount
-  pub id : S.idAt p i ≡ n
-  pub state : t (S.slotAt p i .state) ≡ true
+  pub id : View.idAt p i ≡ n
+  pub state : t (View.slotAt p i .state) ≡ true
 
 -- place i holds the waiter n, not abandoned yet
 pub record Waits (n : ℕ) (p : SlotPool) (i : ℕ) : Type 0 where
@@ -56,7 +57,7 @@ Fit (TakeFromPinner n) p i = Holds isLent n p i
 Fit Close p i = Unit {0}
 
 -- the step of a slot, said of the id that the event names
-by-id : {p : SlotPool} {t : Class} {n i : ℕ} {o : Out SlotPool} {m : Pool} (a : ℕ → D.Act Pool) → Holds t n p i → Same o (a (S.idAt p i) m) → Same o (a n m)
+by-id : {p : SlotPool} {t : Class} {n i : ℕ} {o : Out SlotPool} {m : Pool} (a : ℕ → D.Act Pool) → Holds t n p i → Same o (a (View.idAt p i) m) → Same o (a n m)
 by-id {o = o} {m = m} a at h = subst (λ (x : ℕ). Same o (a x m)) (at .id) h
 
 pub handle-same : (e : Event) (i : ℕ) (p : SlotPool) (m : Pool) → Stands p m → Fit e p i → Same (S.handle e i p) (D.handle e m)
@@ -86,13 +87,13 @@ event-same e i p m st f =
 
 -- the clock does not matter to it
 module _ (now : ℕ) (p : SlotPool) (i : ℕ) where
-  at-clock : {t : Class} {n : ℕ} → Holds t n p i → Holds t n (S.withClock p now) i
+  at-clock : {t : Class} {n : ℕ} → Holds t n p i → Holds t n (View.withClock p now) i
   at-clock f = record { slot = f .slot; id = f .id; state = f .state }
 
-  new-clock : {n : ℕ} → New n p → New n (S.withClock p now)
+  new-clock : {n : ℕ} → New n p → New n (View.withClock p now)
   new-clock f = record { later = f .later; room = f .room }
 
-  pub fit-clock : (e : Event) → Fit e p i → Fit e (S.withClock p now) i
+  pub fit-clock : (e : Event) → Fit e p i → Fit e (View.withClock p now) i
   fit-clock (CheckOut n) f = new-clock f
   fit-clock (WarmPool n) f = new-clock f
   fit-clock (Abandon n) f = record { place = f .place; id = f .id; heard = f .heard }

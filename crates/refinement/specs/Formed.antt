@@ -21,10 +21,12 @@ use Rattle.definition.specs.declared.Frame.the-variants.{Good, Bad}
 use Rattle.definition.specs.declared.PoolState.the-variants.{New}
 use Rattle.definition.specs.declared.Refusal.{Refusal}
 use Rattle.definition.specs.declared.Refusal.the-variants.{OutputShort}
-use Rattle.slots.specs.View.{SlotPool, Slot, poolOf, rows}
+use Rattle.slots.specs.View.{SlotPool, Slot, poolOf, vacant}
+use Rattle.slots.specs.Columns.{column-blank}
+use Rattle.slots.specs.Parts.{slots-blank}
 use Rattle.slots.specs.declared.Head.{Head}
+use Rattle.slots.specs.View as View
 use Rattle.slots.specs.Slots as S
-use Rattle.slots.specs.Slots.{vacant}
 use Rattle.slots.specs.Needs.{taken}
 use Rattle.slots.specs.Call as C
 use Rattle.slots.specs.Call.{World, world, target}
@@ -33,55 +35,20 @@ use Rattle.slots.specs.declared.Outcome.the-variants.{Refused, Accepted}
 use Rattle.refinement.specs.Table.{by-bool, and-both, look-none, lookup, one-zero}
 use Rattle.refinement.specs.Agree.{Class, Agrees, only, only-none}
 use Rattle.refinement.specs.Mirror.{isLent, isPending}
-use Rattle.refinement.specs.Stands.{Limits, Stands, Formed}
+use Rattle.refinement.specs.Alike.{Limits, freshSlots, freshHead, alike-fresh}
+use Rattle.refinement.specs.Stands.{Stands, Formed}
 use Rattle.refinement.specs.Tests.{Passed, tests-passed}
 use Rattle.refinement.specs.Leaves.{news-most, event-leaves, closed-leaves, close-leaves}
 use Rattle.refinement.specs.Call.{Refines, call-refines, refines-stands}
 
 -- ── A fresh pool ───────────────────────────────────────────────────────────────────────────────────────────────────────
 
--- all columns are 0
-abbrev pub freshSlots : Options → SlotPool
-freshSlots o = record {
-  options = o;
-  state = New;
-  generation = 0;
-  nextId = 1;
-  clock = 0;
-  lastRequest = 0;
-  serial = 0;
-  total = 0;
-  pendings = 0;
-  availables = 0;
-  waitings = 0;
-  ids = replicate slotCount 0;
-  slots = replicate slotCount vacant;
-  available = replicate slotCount 0;
-  waiters = replicate queueLength 0;
-}
-
--- the parts of a made pool make it
-abbrev pub freshHead : Options → Head
-freshHead o = record {
-  options = o;
-  status = record { state = New; generation = 0 };
-  «next_connection_id» = 1;
-  clock = 0;
-  «last_request» = 0;
-  serial = 0;
-  «total_connection_count» = 0;
-  «pending_connection_count» = 0;
-  «available_count» = 0;
-  «waiting_count» = 0;
-}
-
 -- a head over columns all of 0
 abbrev pub overBlank : Head → SlotPool
 overBlank h = poolOf h (replicate (2 * slotCount) 0) (replicate slotCount 0) (replicate (2 * slotCount) 0) (replicate queueLength 0)
 
 pub fresh-parts : (o : Options) → overBlank (freshHead o) ≡ freshSlots o
-unfolding rows
-fresh-parts o = refl
+fresh-parts o = rw (slots-blank (2 * slotCount) (2 * slotCount) (omega arith) (omega arith), column-blank 0 (2 * slotCount) (omega arith), column-blank 1 (2 * slotCount) (omega arith))
 
 pub limits-of : (o : Options) → inRange o ≡ true → Limits o
 unfolding inRange
@@ -113,17 +80,7 @@ nobody t n ss = record { finds = λ k z. ap (only t) (look-none k (replicate n 0
 
 pub fresh-stands : (o : Options) → inRange o ≡ true → Stands (freshSlots o) (fresh o)
 fresh-stands o h = record {
-  alike = record {
-    options = refl;
-    state = refl;
-    generation = refl;
-    nextId = refl;
-    clock = refl;
-    lastRequest = refl;
-    serial = refl;
-    limits = limits-of o h;
-    queue = record { room = length-replicate {A = ℕ} queueLength 0; fits = omega arith; waits = refl; rest = λ j a. zeros queueLength j; rises = tt };
-  };
+  alike = alike-fresh o (limits-of o h) (record { room = length-replicate {A = ℕ} queueLength 0; fits = omega arith; waits = refl; rest = λ j a. zeros queueLength j; rises = tt });
   table = record {
     mirror = record {
       longIds = length-replicate {A = ℕ} slotCount 0;
@@ -188,9 +145,9 @@ is-close (ReturnToPinner n) h = absurd (false≢true h)
 is-close (TakeFromPinner n) h = absurd (false≢true h)
 is-close Close h = refl
 
-pub event-numbers : (p : SlotPool) (e : Event) (now i : ℕ) → Limits (p .options) → Passed p e now → p .nextId ≤ mostNextId → S.event e i (S.withClock p now) .pool .nextId ≤ mostNextId
+pub event-numbers : (p : SlotPool) (e : Event) (now i : ℕ) → Limits (p .options) → Passed p e now → p .nextId ≤ mostNextId → S.event e i (View.withClock p now) .pool .nextId ≤ mostNextId
 event-numbers p e now i lim h n =
-    let q = S.withClock p now in
+    let q = View.withClock p now in
     by-bool (isClosed (p .state))
     (λ c. omega (arith, closed-leaves e i q c (closed-takes p e now h c) .next))
     (λ c. by-bool (kindNo e =? 15)

@@ -7,7 +7,7 @@ use native.Mathlib.Omega.{arith}
 use lib.ListN.{length, getD}
 use Rattle.definition.specs.Words.{if_then_else_}
 use Rattle.definition.specs.Pool as P
-use Rattle.definition.specs.Pool.{queueLength, slotCount, Pool, Waiter, isReady, isClosed, staleIn, find}
+use Rattle.definition.specs.Pool.{queueLength, slotCount, Pool, Waiter, isReady, isClosed, find}
 use Rattle.definition.specs.Records.{ConnectionReady, ConnectionCheckedIn, PoolReady, PoolCleared, Interrupt, Reply, Cleared, told}
 use Rattle.definition.specs.Steps as D
 use Rattle.definition.specs.Steps.{nothing, emit, become, _>>_}
@@ -15,27 +15,20 @@ use Rattle.definition.specs.declared.ClosedReason.the-variants.{Stale, Error, D
 use Rattle.definition.specs.declared.PoolState.{PoolState}
 use Rattle.definition.specs.declared.PoolState.the-variants.{New, Paused, Ready, Closed}
 use Rattle.slots.specs.View.{SlotPool}
+use Rattle.slots.specs.View as View
 use Rattle.slots.specs.Slots as S
 use Rattle.refinement.specs.Mirror.{isLent, isPending}
-use Rattle.refinement.specs.Stands.{Alike, Queue, Stands, Same}
+use Rattle.refinement.specs.Alike.{alike-status, alike-queue, alike-request}
+use Rattle.refinement.specs.Stands.{Stands, Same}
 use Rattle.refinement.specs.Transit.{counted}
 use Rattle.refinement.specs.Queue.{queue-emptied, queue-joined, queue-later, queue-marked}
-use Rattle.refinement.specs.Acts.{same-nothing, same-emit, same-then, same-said, same-silent, same-if, Transit, closeAt-same, shelve-same, lendOut-same, lent-transit, lent-is, pending-transit, pending-is}
+use Rattle.refinement.specs.Acts.{same-nothing, same-emit, same-then, same-said, same-silent, same-if, Transit, is-stale, closeAt-same, shelve-same, lendOut-same, lent-transit, lent-is, pending-transit, pending-is}
 
 -- ── The queue and the mode change ──────────────────────────────────────────────────────────────────────────────────────
 
-alike-status : {p : SlotPool} {m : Pool} (s : PoolState) (g g' : ℕ) → g ≡ g' → Alike p m → Alike (S.withStatus p s g) (P.withStatus m s g')
-alike-status s g g' e a = record { options = a .options; state = refl; generation = e; nextId = a .nextId; clock = a .clock; lastRequest = a .lastRequest; serial = a .serial; limits = a .limits; queue = a .queue }
-
-pub alike-queue : {p : SlotPool} {m : Pool} {w : List ℕ} {n : ℕ} {l : List Waiter} → Alike p m → Queue w n (p .lastRequest) l → Alike (S.withWaiters p w n) (P.withWaiting m l)
-alike-queue a q = record { options = a .options; state = a .state; generation = a .generation; nextId = a .nextId; clock = a .clock; lastRequest = a .lastRequest; serial = a .serial; limits = a .limits; queue = q }
-
-alike-request : {p : SlotPool} {m : Pool} {w : List ℕ} {n : ℕ} {l : List Waiter} (r : ℕ) → Alike p m → Queue w n r l → Alike (S.withWaiters (S.withLastRequest p r) w n) (P.withWaiting (P.withLastRequest m r) l)
-alike-request r a q = record { options = a .options; state = a .state; generation = a .generation; nextId = a .nextId; clock = a .clock; lastRequest = refl; serial = a .serial; limits = a .limits; queue = q }
-
 pub enter-same : (s : PoolState) (g g' : ℕ) (p : SlotPool) (m : Pool) → g ≡ g' → Stands p m → Same (S.enter s g p) (D.enter s g' m)
 unfolding S.enter D.enter
-enter-same s g g' p m e st = record { records = refl; stands = record { alike = alike-status s g g' e (st .alike); table = st .table } }
+enter-same s g g' p m e st = record { records = refl; stands = record { alike = alike-status (st .alike) s g g' e; table = st .table } }
 
 pub tellAll-same : (r : Reply) (p : SlotPool) (m : Pool) → Stands p m → Same (S.tellAll r p) (D.tellAll r m)
 unfolding S.tellAll D.tellAll _>>_
@@ -47,15 +40,15 @@ tellAll-same r p m st = record {
 pub request-same : (n : ℕ) (warm : Bool) (p : SlotPool) (m : Pool) → Stands p m → p .lastRequest < n → p .waitings < queueLength → Same (S.request n warm p) (D.request n warm m)
 unfolding S.request D.request S.queue D.queue _>>_
 request-same n warm p m st h g =
-    subst (λ (s : PoolState). Same ((become (S.withLastRequest p n) >> S.queue n warm (p .state)) p) ((become (P.withLastRequest m n) >> D.queue n warm s) m)) (st .alike .state) (go (p .state))
+    subst (λ (s : PoolState). Same ((become (View.withLastRequest p n) >> S.queue n warm (p .state)) p) ((become (P.withLastRequest m n) >> D.queue n warm s) m)) (st .alike .state) (go (p .state))
   where
-    later : Stands (S.withLastRequest p n) (P.withLastRequest m n)
-    later = record { alike = alike-request n (st .alike) (queue-later (st .alike .queue) n (omega arith)); table = st .table }
+    later : Stands (View.withLastRequest p n) (P.withLastRequest m n)
+    later = record { alike = alike-request (st .alike) n (queue-later (st .alike .queue) n (omega arith)); table = st .table }
 
-    go : (s : PoolState) → Same ((become (S.withLastRequest p n) >> S.queue n warm s) p) ((become (P.withLastRequest m n) >> D.queue n warm s) m)
+    go : (s : PoolState) → Same ((become (View.withLastRequest p n) >> S.queue n warm s) p) ((become (P.withLastRequest m n) >> D.queue n warm s) m)
     go New = record { records = refl; stands = later }
     go (Paused cause) = record { records = refl; stands = later }
-    go Ready = record { records = refl; stands = record { alike = alike-request n (st .alike) (queue-joined (st .alike .queue) n warm g h); table = st .table } }
+    go Ready = record { records = refl; stands = record { alike = alike-request (st .alike) n (queue-joined (st .alike .queue) n warm g h); table = st .table } }
     go Closed = record { records = refl; stands = later }
 
 pub abandon-same : (k n : ℕ) (p : SlotPool) (m : Pool) → Stands p m → k < p .waitings → getD (p .waiters) k 0 / 4 ≡ n → getD (p .waiters) k 0 % 4 < 2 → Same (S.abandonAt k p) (D.abandon n m)
@@ -96,28 +89,28 @@ markAsReady-same p m st =
 
 module _ (i : ℕ) (p : SlotPool) (m : Pool) (st : Stands p m) (low : i < slotCount) where
   abbrev n : ℕ
-  n = S.idAt p i
+  n = View.idAt p i
 
-  pub checkIn-same : (errored executing : Bool) (t : ℕ) → isLent (S.slotAt p i .state) ≡ true → Same (S.checkInAt i errored executing t p) (D.checkIn n errored executing t m)
+  pub checkIn-same : (errored executing : Bool) (t : ℕ) → isLent (View.slotAt p i .state) ≡ true → Same (S.checkInAt i errored executing t p) (D.checkIn n errored executing t m)
   unfolding S.checkInAt D.checkIn D.leaveLent
   checkIn-same errored executing t h =
       let q : Pool = D.leaveLent n m .pool in
       let tr : Transit p q i = lent-transit st i low h in
       let is = lent-is st i low h in
-      let old : S.staleAt p i ≡ P.stale m (find n (m .lent)) = ap (λ (x : ℕ). staleIn x (S.slotAt p i .generation)) (st .alike .generation) ∙ ap (λ (x : ℕ). staleIn (m .generation) x) (sym (is .1)) in
+      let old = is-stale i (find n (m .lent)) (st .alike) is in
       same-silent (D.leaveLent n) _ m refl
       (same-if _ _ _ _ p q (ap isClosed (st .alike .state))
-      (λ _. closeAt-same PoolClosed i n p q tr refl)
+      (λ _. closeAt-same PoolClosed i n 0 p q tr refl)
       (λ _. same-said (emit (ConnectionCheckedIn n)) _ (emit (ConnectionCheckedIn n)) _ p q refl
       (same-if _ _ _ _ p q refl
-      (λ _. closeAt-same Error i n p q tr refl)
+      (λ _. closeAt-same Error i n 0 p q tr refl)
       (λ _. same-if _ _ _ _ p q old
-      (λ _. closeAt-same Stale i n p q tr refl)
+      (λ _. closeAt-same Stale i n 0 p q tr refl)
       (λ _. same-if _ _ _ _ p q refl
-      (λ _. closeAt-same Dropped i n p q tr refl)
+      (λ _. closeAt-same Dropped i n 0 p q tr refl)
       (λ _. shelve-same i t (find n (m .lent)) p q tr is))))))
 
-  module _ (h : isPending (S.slotAt p i .state) ≡ true) where
+  module _ (h : isPending (View.slotAt p i .state) ≡ true) where
     pub succeeded-same : Same (S.succeededAt i p) (D.succeeded n m)
     unfolding S.succeededAt D.succeeded S.leavePending D.leavePending
     succeeded-same =
@@ -132,9 +125,9 @@ module _ (i : ℕ) (p : SlotPool) (m : Pool) (st : Stands p m) (low : i < slotCo
         same-said (emit (ConnectionReady n)) _ (emit (ConnectionReady n)) _ p m refl
         (same-said S.leavePending _ (D.leavePending n) _ p m refl
         (same-if _ _ _ _ _ _ (ap isClosed (st .alike .state))
-        (λ _. closeAt-same PoolClosed i n _ _ tr refl)
+        (λ _. closeAt-same PoolClosed i n 0 _ _ tr refl)
         (λ _. shelve-same i opened (find n (m .pending)) _ _ tr (pending-is st i low h))))
 
     pub failed-same : Same (S.failedAt i p) (D.failed n m)
     unfolding S.failedAt D.failed S.leavePending D.leavePending
-    failed-same = same-said S.leavePending _ (D.leavePending n) _ p m refl (closeAt-same Error i n _ _ (pending-transit st i low h) refl)
+    failed-same = same-said S.leavePending _ (D.leavePending n) _ p m refl (closeAt-same Error i n 0 _ _ (pending-transit st i low h) refl)

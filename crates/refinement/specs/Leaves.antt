@@ -16,6 +16,7 @@ use Rattle.definition.specs.declared.Options.{Options}
 use Rattle.definition.specs.declared.PoolState.{PoolState}
 use Rattle.definition.specs.declared.PoolState.the-variants.{New, Paused, Ready, Closed}
 use Rattle.slots.specs.View.{SlotPool}
+use Rattle.slots.specs.View as View
 use Rattle.slots.specs.Slots as S
 
 -- at most k ids are taken; the state is left alone, if s says so
@@ -45,9 +46,9 @@ module _ {s : Bool} where
 
   -- ── Parts ──────────────────────────────────────────────────────────────────────────────────────────────────────────────
 
-  closeAt-leaves : (r : ClosedReason) (i : ℕ) (p : SlotPool) → Leaves s 0 p (S.closeAt r i p)
+  closeAt-leaves : (r : ClosedReason) (i other : ℕ) (p : SlotPool) → Leaves s 0 p (S.closeAt r i other p)
   unfolding S.closeAt _>>_
-  closeAt-leaves r i p = record { options = refl; serial = refl; more = omega arith; next = omega arith; state = λ _. refl }
+  closeAt-leaves r i other p = record { options = refl; serial = refl; more = omega arith; next = omega arith; state = λ _. refl }
 
   shelve-leaves : (i t : ℕ) (p : SlotPool) → Leaves s 0 p (S.shelve i t p)
   unfolding S.shelve
@@ -75,7 +76,7 @@ module _ {s : Bool} where
 
   closePerished-leaves : (i : ℕ) (p : SlotPool) → Leaves s 0 p (S.closePerishedAt i p)
   unfolding S.closePerishedAt
-  closePerished-leaves i p = closeAt-leaves _ i p
+  closePerished-leaves i p = closeAt-leaves _ i _ p
 
   tellAll-leaves : (r : _) (p : SlotPool) → Leaves s 0 p (S.tellAll r p)
   unfolding S.tellAll _>>_
@@ -87,7 +88,7 @@ module _ {s : Bool} where
   unfolding S.request S.queue _>>_
   request-leaves n warm p = go (p .state)
     where
-      go : (q : PoolState) → Leaves s 0 p ((become (S.withLastRequest p n) >> S.queue n warm q) p)
+      go : (q : PoolState) → Leaves s 0 p ((become (View.withLastRequest p n) >> S.queue n warm q) p)
       go New = record { options = refl; serial = refl; more = omega arith; next = omega arith; state = λ _. refl }
       go (Paused cause) = record { options = refl; serial = refl; more = omega arith; next = omega arith; state = λ _. refl }
       go Ready = record { options = refl; serial = refl; more = omega arith; next = omega arith; state = λ _. refl }
@@ -100,11 +101,11 @@ module _ {s : Bool} where
   checkInAt-leaves : (i : ℕ) (errored executing : Bool) (t : ℕ) (p : SlotPool) → Leaves s 0 p (S.checkInAt i errored executing t p)
   unfolding S.checkInAt
   checkInAt-leaves i errored executing t p =
-      leaves-if _ _ _ p (λ _. closeAt-leaves _ i p)
+      leaves-if _ _ _ p (λ _. closeAt-leaves _ i _ p)
       (λ _. leaves-then (emit _) _ p (leaves-all 0 p)
-      (leaves-if _ _ _ p (λ _. closeAt-leaves _ i p)
-      (λ _. leaves-if _ _ _ p (λ _. closeAt-leaves _ i p)
-      (λ _. leaves-if _ _ _ p (λ _. closeAt-leaves _ i p) (λ _. shelve-leaves i t p)))))
+      (leaves-if _ _ _ p (λ _. closeAt-leaves _ i _ p)
+      (λ _. leaves-if _ _ _ p (λ _. closeAt-leaves _ i _ p)
+      (λ _. leaves-if _ _ _ p (λ _. closeAt-leaves _ i _ p) (λ _. shelve-leaves i t p)))))
 
   succeededAt-leaves : (i : ℕ) (p : SlotPool) → Leaves s 0 p (S.succeededAt i p)
   unfolding S.succeededAt
@@ -113,11 +114,11 @@ module _ {s : Bool} where
   succeededForPoolAt-leaves : (i opened : ℕ) (p : SlotPool) → Leaves s 0 p (S.succeededForPoolAt i opened p)
   unfolding S.succeededForPoolAt
   succeededForPoolAt-leaves i opened p =
-      leaves-then (emit _) _ p (leaves-all 0 p) (leaves-then S.leavePending _ p (leavePending-leaves p) (leaves-if _ _ _ _ (λ _. closeAt-leaves _ i _) (λ _. shelve-leaves i opened _)))
+      leaves-then (emit _) _ p (leaves-all 0 p) (leaves-then S.leavePending _ p (leavePending-leaves p) (leaves-if _ _ _ _ (λ _. closeAt-leaves _ i _ _) (λ _. shelve-leaves i opened _)))
 
   failedAt-leaves : (i : ℕ) (p : SlotPool) → Leaves s 0 p (S.failedAt i p)
   unfolding S.failedAt
-  failedAt-leaves i p = leaves-then S.leavePending _ p (leavePending-leaves p) (closeAt-leaves _ i _)
+  failedAt-leaves i p = leaves-then S.leavePending _ p (leavePending-leaves p) (closeAt-leaves _ i _ _)
 
   pub prune-leaves : (k : ℕ) (p : SlotPool) → Leaves s 0 p (S.prune k p)
   unfolding S.prune
@@ -138,7 +139,7 @@ module _ {s : Bool} where
   closeFront-leaves : (k : ℕ) (p : SlotPool) → Leaves s 0 p (S.closeFront k p)
   unfolding S.closeFront
   closeFront-leaves zero p = leaves-all 0 p
-  closeFront-leaves (suc k) p = leaves-then S.popFront _ p (popFront-leaves p) (leaves-then (S.closeAt _ _) (S.closeFront k) _ (closeAt-leaves _ _ _) (closeFront-leaves k _))
+  closeFront-leaves (suc k) p = leaves-then S.popFront _ p (popFront-leaves p) (leaves-then (S.closeAt _ _ _) (S.closeFront k) _ (closeAt-leaves _ _ _ _) (closeFront-leaves k _))
 
   establish-leaves : (w : Waiter) (p : SlotPool) → Leaves s 1 p (S.establish w p)
   unfolding S.establish

@@ -1,6 +1,7 @@
 pub mod Table
 pub mod Agree
 pub mod Mirror
+pub mod Alike
 pub mod Stands
 pub mod Order
 pub mod Transit

@@ -11,9 +11,8 @@ use Rattle.definition.specs.Words.{_∷ʳ_}
 use Rattle.definition.specs.Pool.{slotCount, Conn, without}
 use Rattle.definition.specs.Steps.{_to_holds_}
 use Rattle.definition.specs.declared.ConnectionState.the-variants.{CheckedIn}
-use Rattle.slots.specs.View.{Slot}
-use Rattle.slots.specs.Slots.{vacant}
-use Rattle.refinement.specs.Table.{Unique, Fresh, fresh-old, by-eq, unique-put, cell}
+use Rattle.slots.specs.View.{Slot, vacant}
+use Rattle.refinement.specs.Table.{Unique, Fresh, fresh-old, by-eq, unique-put, cell, connIn}
 use Rattle.refinement.specs.Agree.{Class, Agrees, agrees-same, agrees-in, agrees-out}
 
 -- the classes: lent (2 to 4), pending (5 and 6)
@@ -74,7 +73,7 @@ distinct-last (x ∷ l) s d = ((λ e. all-last (λ y. y ≢ x) l s (d .0) (sym e
 
 -- the available connection of slot i
 abbrev pub connAt : List ℕ → List Slot → ℕ → Conn
-connAt xs ss i = record { id = getD xs i 0; generation = getD ss i vacant .generation; time = getD ss i vacant .time; state = CheckedIn }
+connAt xs ss i = connIn (getD xs i 0) (getD ss i vacant) CheckedIn
 
 abbrev pub view : List ℕ → List Slot → List ℕ → List Conn
 view xs ss o = map (connAt xs ss) o

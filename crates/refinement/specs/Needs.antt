@@ -13,6 +13,7 @@ use Rattle.definition.specs.Refusals.{lastNextId}
 use Rattle.definition.specs.declared.Event.{Event}
 use Rattle.definition.specs.declared.Event.the-variants.{Clear, Maintenance}
 use Rattle.slots.specs.View.{SlotPool, Whole}
+use Rattle.slots.specs.View as View
 use Rattle.slots.specs.Slots as S
 use Rattle.slots.specs.Call.{target}
 use Rattle.slots.specs.Needs.{CanCreate, CanClose, CanShelve, CanLeave, CanPrune, CanFill, CanQueue, CanTell, CanClear, CanTake, CanWarm, CanServe}
@@ -126,12 +127,12 @@ module _ {p : SlotPool} {m : Pool} (st : Stands p m) (some : 0 < p .waitings) wh
 
 -- after the event's own act the pool can be served
 pub can-serve-after : (p : SlotPool) (e : Event) (now : ℕ) → Formed p → Passed p e now
-    → Whole (S.handle e (target p e) (S.withClock p now) .pool) × CanServe (S.handle e (target p e) (S.withClock p now) .pool)
+    → Whole (S.handle e (target p e) (View.withClock p now) .pool) × CanServe (S.handle e (target p e) (View.withClock p now) .pool)
 unfolding S.event _>>_
 can-serve-after p e now f h =
     let i = target p e in
-    let q : SlotPool = S.handle e i (S.withClock p now) .pool in
-    let o = handle-same e i (S.withClock p now) _ (clock-stands now (f .stands)) (fit-clock now p i e (h .fit)) in
+    let q : SlotPool = S.handle e i (View.withClock p now) .pool in
+    let o = handle-same e i (View.withClock p now) _ (clock-stands now (f .stands)) (fit-clock now p i e (h .fit)) in
     let n = event-numbers p e now i (f .stands .alike .limits) h (f .numbers) in
     let l : Leaves false 1 q ((if serviced e then S.service else nothing) q) = leaves-if (serviced e) S.service nothing q (λ _. service-leaves q) (λ _. leaves-all 1 q) in
     (whole (o .stands), can-serve (o .stands) (omega (arith, l .more, n)))

@@ -6,13 +6,11 @@ use Prim.Native.Nat.{ℕ, suc, _-_, _≤_, _<_}
 use native.Mathlib.Omega.{arith}
 use lib.ListN.{length, getD, take, drop}
 use lib.Seq.{take-at}
-use borrow.Author.Tests.{eq-eqb, ne-eqb, leb-true, le-leb, lt-leb}
-use Rattle.definition.specs.Words.{if_then_else_, _≤?_}
+use borrow.Author.Tests.{leb-true, le-leb, lt-leb}
+use Rattle.definition.specs.Words.{_≤?_}
 use Rattle.definition.specs.Steps.{_to_holds_}
-use Rattle.slots.specs.Order.{placeBy, place, shifted}
+use Rattle.slots.specs.Order.{placeBy, shifted}
 use Rattle.slots.specs.OrderLaws.{length-tail, shifted-clear, place-before}
-use Rattle.slots.specs.Needs.{taken}
-use Rattle.refinement.specs.Table.{by-eq}
 
 -- ── Numbers of states ──────────────────────────────────────────────────────────────────────────────────────────────────
 
@@ -56,12 +54,3 @@ module _ (a : List ℕ) (k : ℕ) (h : k < length a) where
 -- where no place is found, the number stands nowhere
 pub place-not : (f : ℕ → ℕ) (x n : ℕ) (l : List ℕ) → n ≤ placeBy f x n l → (j : ℕ) → j < n → f (getD l j 0) ≡ x → ⊥
 place-not f x n l h j g = place-before f x n l j (omega arith)
-
--- where fewer are taken than there are, one is vacant
-pub place-vacant : (l : List ℕ) → taken l < length l → place 0 (length l) l < length l
-unfolding taken placeBy if_then_else_
-place-vacant [] h = absurd (omega arith)
-place-vacant (x ∷ l) h =
-    by-eq x 0
-    (λ e. rw (eq-eqb x 0 e) (omega arith))
-    (λ n. rw (ne-eqb x 0 n) (omega (arith, place-vacant l (omega (arith, (rw (ne-eqb x 0 n) at h))))))

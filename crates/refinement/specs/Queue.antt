@@ -17,7 +17,7 @@ use Rattle.slots.specs.OrderLaws.{length-shifted, place-found}
 use Rattle.slots.specs.View.{waiterOf}
 use Rattle.slots.specs.Slots.{zeroed}
 use Rattle.refinement.specs.Table.{by-lt}
-use Rattle.refinement.specs.Stands.{Rises, Queue}
+use Rattle.refinement.specs.Alike.{Rises, Queue}
 use Rattle.refinement.specs.Order.{take-front, take-rest, shifted-rest, place-not}
 
 -- ── One waiter as a number: four times its id, and 1 if warm, 2 if abandoned ───────────────────────────────────────────

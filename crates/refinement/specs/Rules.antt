@@ -4,7 +4,7 @@ use mathlib.Core.Bool.{Bool, true, false}
 use mathlib.Core.List.{List, [], _∷_}
 use mathlib.Core.Option.{none, some}
 use Prim.Native.Nat.{ℕ, zero, suc, _+_, _≤_, _<_}
-use native.Mathlib.Nat.{mod-lt, mod-eq-of-lt}
+use native.Mathlib.Nat.{mod-lt}
 use native.Mathlib.Omega.{arith}
 use lib.ListN.{length, getD, take, length-map}
 use lib.Seq.{length-take-le}
@@ -16,14 +16,15 @@ use Rattle.definition.specs.declared.ConnectionState.{ConnectionState}
 use Rattle.definition.specs.declared.ConnectionState.the-variants.{Vacant, CheckedIn, CheckedOut, Pinned, Pending}
 use Rattle.definition.specs.declared.PinnedState.the-variants.{InUse, Returned}
 use Rattle.definition.specs.declared.Purpose.the-variants.{Request, Background}
-use Rattle.slots.specs.View.{SlotPool, Slot, Whole}
+use Rattle.slots.specs.View.{SlotPool, Slot, Whole, vacant}
+use Rattle.slots.specs.View as View
 use Rattle.slots.specs.Slots as S
-use Rattle.slots.specs.Slots.{vacant}
 use Rattle.slots.specs.Needs.{taken}
-use Rattle.refinement.specs.Table.{by-eq, by-bool, Unique, unique-tail, look, cell, lookup, Once, none-not-some, lookup-other, lookup-gone, once-without, length-without, one, one-pos, one-zero}
+use Rattle.refinement.specs.Table.{by-eq, by-bool, Unique, unique-tail, look, cell, connIn, lookup, Once, none-not-some, lookup-other, lookup-gone, once-without, length-without, one, one-pos, one-zero}
 use Rattle.refinement.specs.Agree.{Class, Agrees, only}
 use Rattle.refinement.specs.Mirror.{isLent, isPending, All, Distinct, Listed, Used, view}
-use Rattle.refinement.specs.Stands.{Limits, Rises, Stands, Formed}
+use Rattle.refinement.specs.Alike.{Limits, Rises, listsWith, alike-lists}
+use Rattle.refinement.specs.Stands.{Stands, Formed}
 use Rattle.refinement.specs.Transit.{counted}
 use Rattle.refinement.specs.Needs.{whole}
 
@@ -49,7 +50,7 @@ state-number (suc (suc (suc (suc (suc zero))))) h = refl
 state-number (suc (suc (suc (suc (suc (suc k)))))) h = omega arith
 
 abbrev pub connOf : ℕ → Slot → Conn
-connOf x s = record { id = x; generation = s .generation; time = s .time; state = stateBy (s .state) }
+connOf x s = connIn x s (stateBy (s .state))
 
 cell-of : (x : ℕ) (s : Slot) → s .state ≤ 6 → cell (connOf x s) ≡ s
 cell-of x s h = rw (state-number (s .state) h)
@@ -195,9 +196,9 @@ pub record Rules (p : SlotPool) : Type 0 where
   pub limits : Limits (p .options)
   pub columns : Whole p
   pub unique : Unique (p .ids)
-  pub below : (j : ℕ) → S.idAt p j < p .nextId
-  pub blank : (j : ℕ) → S.idAt p j ≡ 0 → S.slotAt p j ≡ vacant
-  pub used : (j : ℕ) → 0 < S.idAt p j → Used (S.slotAt p j)
+  pub below : (j : ℕ) → View.idAt p j < p .nextId
+  pub blank : (j : ℕ) → View.idAt p j ≡ 0 → View.slotAt p j ≡ vacant
+  pub used : (j : ℕ) → 0 < View.idAt p j → Used (View.slotAt p j)
   pub fits : p .availables ≤ slotCount
   pub listed : All (Listed (p .ids) (p .slots)) (take (p .availables) (p .available))
   pub distinct : Distinct (take (p .availables) (p .available))
@@ -213,19 +214,8 @@ pub record Rules (p : SlotPool) : Type 0 where
 
 -- the lists that such a pool stands for
 abbrev pub listsOf : SlotPool → Pool
-listsOf p = record {
-  options = p .options;
-  state = p .state;
-  generation = p .generation;
-  nextId = p .nextId;
-  clock = p .clock;
-  lastRequest = p .lastRequest;
-  written = p .serial;
-  available = view (p .ids) (p .slots) (take (p .availables) (p .available));
-  lent = collect isLent (p .ids) (p .slots);
-  pending = collect isPending (p .ids) (p .slots);
-  waiting = S.waitersOf p;
-}
+listsOf p =
+    listsWith p (view (p .ids) (p .slots) (take (p .availables) (p .available))) (collect isLent (p .ids) (p .slots)) (collect isPending (p .ids) (p .slots))
 
 pub rules-stand : (p : SlotPool) → Rules p → Stands p (listsOf p)
 rules-stand p r =
@@ -233,17 +223,7 @@ rules-stand p r =
     let v : length (view (p .ids) (p .slots) (take n (p .available))) ≡ n = simp length-map (length-take-le n (p .available) (omega (arith, r .fits, r .columns .available))) in
     let s = split (p .ids) (p .slots) (omega (arith, r .columns .ids, r .columns .slots)) (r .used) in
     record {
-      alike = record {
-        options = refl;
-        state = refl;
-        generation = refl;
-        nextId = refl;
-        clock = refl;
-        lastRequest = refl;
-        serial = sym (mod-eq-of-lt (r .serial));
-        limits = r .limits;
-        queue = record { room = r .columns .waiters; fits = r .queue; waits = refl; rest = r .queueRest; rises = r .rises };
-      };
+      alike = alike-lists p _ _ _ (r .serial) (r .limits) (record { room = r .columns .waiters; fits = r .queue; waits = refl; rest = r .queueRest; rises = r .rises });
       table = record {
         mirror = record {
           longIds = r .columns .ids;

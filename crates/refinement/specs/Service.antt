@@ -17,13 +17,14 @@ use Rattle.definition.specs.declared.PoolState.{PoolState}
 use Rattle.definition.specs.declared.Purpose.the-variants.{Request}
 use Rattle.slots.specs.Order.{shifted}
 use Rattle.slots.specs.View.{SlotPool, waiterOf}
+use Rattle.slots.specs.View as View
 use Rattle.slots.specs.Slots as S
 use Rattle.refinement.specs.Table.{by-eq, and-both}
-use Rattle.refinement.specs.Stands.{Queue, Stands, Same}
+use Rattle.refinement.specs.Stands.{Stands, Same}
 use Rattle.refinement.specs.Transit.{counted, at-most}
 use Rattle.refinement.specs.Queue.{others, queue-front, queue-left}
 use Rattle.refinement.specs.Acts.{same-nothing, same-emit, same-then, same-said, same-if, Transit, Is, shelve-same, lendOut-same, create-same}
-use Rattle.refinement.specs.Handle.{alike-queue}
+use Rattle.refinement.specs.Alike.{Queue, alike-queue}
 use Rattle.refinement.specs.Walks.{shown, back-shown, back-transit, perished-same, closePerished-same, close-counts, back-counts}
 
 pub establish-same : (w : Waiter) (p : SlotPool) (m : Pool) → Stands p m → p .total < slotCount → Same (S.establish w p) (D.establish w m)
@@ -36,8 +37,8 @@ establish-same w p m st h =
 pub lend-same : (w : Waiter) (i : ℕ) (c : Conn) (p : SlotPool) (m : Pool) → Transit p m i → shown p i ≡ c → Same (S.lend w i p) (D.lend w c m)
 unfolding S.lend D.lend
 lend-same w i c p m tr e =
-    let is : Is p i c = (ap (λ (x : Conn). x .id) (sym e), ap (λ (x : Conn). x .generation) (sym e)) in
-    same-said (emit (told (Pooled (S.idAt p i)) w)) _ (emit (told (Pooled (c .id)) w)) _ p m (ap (λ (x : Conn). told (Pooled (x .id)) w ∷ []) e)
+    let is : Is p i c = λ q t. ap (P.withState q t) (sym e) in
+    same-said (emit (told (Pooled (View.idAt p i)) w)) _ (emit (told (Pooled (c .id)) w)) _ p m (ap (λ (x : Conn). told (Pooled (x .id)) w ∷ []) e)
     (same-if _ _ _ _ p m refl
     (λ _. subst (λ (x : ℕ). Same (S.shelve i (p .clock) p) (D.shelve c x m)) (tr .alike .clock) (shelve-same i (p .clock) c p m tr is))
     (λ _. lendOut-same i c p m tr is))

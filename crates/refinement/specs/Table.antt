@@ -12,8 +12,7 @@ use borrow.Author.Tests.{eq-eqb, ne-eqb, eqb-true, eqb-false, ltb-true, ltb-fals
 use Rattle.definition.specs.Words.{if_then_else_, _=?_, _∷ʳ_}
 use Rattle.definition.specs.Pool.{Conn, has, find, without, setState, stateNo}
 use Rattle.definition.specs.declared.ConnectionState.{ConnectionState}
-use Rattle.slots.specs.View.{Slot}
-use Rattle.slots.specs.Slots.{vacant, withState}
+use Rattle.slots.specs.View.{Slot, vacant, withState, slot}
 use Rattle.slots.specs.Needs.{taken}
 
 -- a case by a test
@@ -120,9 +119,12 @@ module _ (xs : List ℕ) (ss : List Slot) (i v : ℕ) (s : Slot) (l : length ss 
 
 -- ── Lists of connections ───────────────────────────────────────────────────────────────────────────────────────────────
 
--- what a slot holds of a connection
+-- what a slot holds of a connection; and the connection of an id, a slot and a state
 abbrev pub cell : Conn → Slot
-cell c = record { generation = c .generation; time = c .time; state = stateNo (c .state) }
+cell c = slot (c .generation) (c .time) (stateNo (c .state))
+
+abbrev pub connIn : (id : ℕ) → Slot → ConnectionState → Conn
+connIn x s q = record { id = x; generation = s .generation; time = s .time; state = q }
 
 unfoldable pub lookup : ℕ → List Conn → Option Slot
 lookup n [] = none

@@ -20,9 +20,10 @@ use Rattle.definition.specs.declared.PoolState.{PoolState}
 use Rattle.definition.specs.declared.Refusal.{Refusal}
 use Rattle.definition.specs.declared.Refusal.the-variants.{ClockBack, AfterClose, NumbersSpent, OldRequest, QueueFull, WrongState, WrongTime, NotWaiting, AlreadyPinned}
 use Rattle.slots.specs.OrderLaws.{place-found}
-use Rattle.slots.specs.View.{SlotPool, Slot}
+use Rattle.slots.specs.Finding.{holding-at, holding-none}
+use Rattle.slots.specs.View.{SlotPool, Slot, vacant}
+use Rattle.slots.specs.View as View
 use Rattle.slots.specs.Slots as S
-use Rattle.slots.specs.Slots.{vacant}
 use Rattle.slots.specs.Call as C
 use Rattle.slots.specs.declared.Verdict.the-variants.{Accept}
 use Rattle.slots.specs.Call.{slotOf, waiterOf?, stateOf, timeOf, target}
@@ -30,7 +31,7 @@ use Rattle.refinement.specs.Table.{look-at, look-none, by-eq, by-lt, by-
 use Rattle.refinement.specs.Agree.{Class, Agrees, only, only-out, only-none}
 use Rattle.refinement.specs.Mirror.{isLent, isPending, lengths, inIds}
 use Rattle.refinement.specs.Stands.{Stands}
-use Rattle.refinement.specs.Order.{within, holds-in, holds-below, holds-above, place-not}
+use Rattle.refinement.specs.Order.{within, holds-in, holds-below, holds-above}
 use Rattle.refinement.specs.Transit.{seen}
 use Rattle.refinement.specs.Queue.{waiters-counted, waits-same}
 use Rattle.refinement.specs.Events.{Holds, New, Fit}
@@ -53,25 +54,25 @@ module _ {p : SlotPool} {m : Pool} (st : Stands p m) (n : ℕ) (t : Class) (neve
 
   -- found in a state of the class
   pub found : t (stateOf p n) ≡ true → Holds t n p i
-  found h = record { slot = low; id = place-found (λ v. v) n slotCount (p .ids) low; state = h }
+  found h = record { slot = low; id = holding-at (p .ids) n low; state = h }
     where
       low : i < slotCount
       low =
           by-lt i slotCount (λ g. g)
           (λ g. absurd (false≢true (sym never ∙ ap (λ (x : Slot). t (x .state)) (sym (List·getD-eq-default (p .slots) vacant (omega (arith, st .table .mirror .longSlots)))) ∙ h)))
 
-  pub there : t (stateOf p n) ≡ true → (has n l ≡ true) × (cell (find n l) ≡ S.slotAt p i)
+  pub there : t (stateOf p n) ≡ true → (has n l ≡ true) × (cell (find n l) ≡ View.slotAt p i)
   there h =
       let f = found h in
-      has-it n l (S.slotAt p i) (subst (λ (x : ℕ). lookup x l ≡ some (S.slotAt p i)) (f .id) (seen (st .table) i (f .slot) t never h a))
+      has-it n l (View.slotAt p i) (subst (λ (x : ℕ). lookup x l ≡ some (View.slotAt p i)) (f .id) (seen (st .table) i (f .slot) t never h a))
 
   pub absent : t (stateOf p n) ≡ false → has n l ≡ false
   absent h = has-not n l (by-eq n 0
       (λ e. ap (λ (x : ℕ). lookup x l) e ∙ a .named)
       (λ d. let z : 0 < n = omega (arith, d) in
       sym (a .finds n z) ∙ by-lt i slotCount
-      (λ g. ap (only t) (look-at n i (p .ids) (p .slots) (lengths (st .table .mirror) i g) (st .table .mirror .unique) (inIds (st .table .mirror) i g) z (place-found (λ v. v) n slotCount (p .ids) g)) ∙ only-out t (S.slotAt p i) h)
-      (λ g. ap (only t) (look-none n (p .ids) (p .slots) (λ j k. place-not (λ v. v) n slotCount (p .ids) g j (omega (arith, st .table .mirror .longIds)))) ∙ only-none t)))
+      (λ g. ap (only t) (look-at n i (p .ids) (p .slots) (lengths (st .table .mirror) i g) (st .table .mirror .unique) (inIds (st .table .mirror) i g) z (holding-at (p .ids) n g)) ∙ only-out t (View.slotAt p i) h)
+      (λ g. ap (only t) (look-none n (p .ids) (p .slots) (λ j k. holding-none (p .ids) n g j (omega (arith, st .table .mirror .longIds)))) ∙ only-none t)))
 
   pub has-same : t (stateOf p n) ≡ has n l
   has-same = by-bool (t (stateOf p n)) (λ h. h ∙ sym (there h .0)) (λ h. h ∙ sym (absent h))

@@ -16,10 +16,9 @@ use Rattle.definition.specs.declared.ConnectionState.{ConnectionState}
 use Rattle.definition.specs.declared.ConnectionState.the-variants.{CheckedIn}
 use Rattle.slots.specs.Order.{shifted}
 use Rattle.slots.specs.OrderLaws.{length-shifted}
-use Rattle.slots.specs.View.{Slot}
-use Rattle.slots.specs.Slots.{vacant, withState}
+use Rattle.slots.specs.View.{Slot, vacant, withState}
 use Rattle.slots.specs.Needs.{taken}
-use Rattle.refinement.specs.Table.{Fresh, fresh-zero, by-eq, look-at, cell, lookup, length-without, length-setState, one-pos, one-zero, taken-put, taken-at-most}
+use Rattle.refinement.specs.Table.{Fresh, fresh-zero, by-eq, look-at, cell, connIn, lookup, length-without, length-setState, one-pos, one-zero, taken-put, taken-at-most}
 use Rattle.refinement.specs.Agree.{Class, Agrees, only, only-in, agrees-set}
 use Rattle.refinement.specs.Mirror.{isLent, isPending, All, all-last, distinct-last, Mirror, mirror-put, mirror-list, mirror-front, mirror-back, inIds, inSlots, lengths, fresh-held, same, into, out, unlisted, Listed, connAt, view}
 use Rattle.refinement.specs.Stands.{Table}
@@ -273,7 +272,7 @@ module _ {xs : List ℕ} {ss : List Slot} {order : List ℕ} {n t c next : ℕ} 
         holds = off .holds;
       }
 
-  pub onto-back : (s : Slot) (x : Conn) → s .state ≡ 1 → x ≡ record { id = getD xs i 0; generation = s .generation; time = s .time; state = CheckedIn } → Table xs (set ss i s) (set order n i) (n + 1) t c next (av ∷ʳ x) le pe
+  pub onto-back : (s : Slot) (x : Conn) → s .state ≡ 1 → x ≡ connIn (getD xs i 0) s CheckedIn → Table xs (set ss i s) (set order n i) (n + 1) t c next (av ∷ʳ x) le pe
   onto-back s x h e =
       let k = off .mirror in
       let low = off .low in

@@ -9,9 +9,9 @@ use borrow.Author.Tests.{lt-ltb, le-ltb}
 use Rattle.definition.specs.Words.{if_then_else_, _<?_, _∷ʳ_}
 use Rattle.definition.specs.Pool as P
 use Rattle.definition.specs.Pool.{Pool, Conn, isReady, staleIn, idleFor, total}
-use Rattle.definition.specs.Records.{Record, ConnectionClosed, PoolShut, Gone, told}
+use Rattle.definition.specs.Records.{Record, PoolShut, Gone, told}
 use Rattle.definition.specs.Steps as D
-use Rattle.definition.specs.Steps.{emit, emitAll, become, _>>_}
+use Rattle.definition.specs.Steps.{closedWithPool, emit, emitAll, become, _>>_}
 use Rattle.definition.specs.declared.ClosedReason.{ClosedReason}
 use Rattle.definition.specs.declared.ClosedReason.the-variants.{Idle, Stale, PoolClosed}
 use Rattle.definition.specs.declared.Options.{Options}
@@ -19,12 +19,14 @@ use Rattle.definition.specs.declared.PoolState.the-variants.{Closed}
 use Rattle.definition.specs.declared.Purpose.the-variants.{Background}
 use Rattle.slots.specs.Order.{shifted}
 use Rattle.slots.specs.View.{SlotPool}
+use Rattle.slots.specs.View as View
 use Rattle.slots.specs.Slots as S
 use Rattle.refinement.specs.Table.{by-lt}
 use Rattle.refinement.specs.Mirror.{connAt}
-use Rattle.refinement.specs.Stands.{Alike, Table, Stands, Same}
+use Rattle.refinement.specs.Alike.{Alike, alike-table}
+use Rattle.refinement.specs.Stands.{Table, Stands, Same}
 use Rattle.refinement.specs.Transit.{Off, counted, front-is, off-front, back-is, off-back}
-use Rattle.refinement.specs.Acts.{same-nothing, same-emit, same-then, same-said, same-silent, same-if, Transit, alike-table, closeAt-same, create-same}
+use Rattle.refinement.specs.Acts.{same-nothing, same-emit, same-then, same-said, same-silent, same-if, Transit, closeAt-same, create-same}
 use Rattle.refinement.specs.Handle.{enter-same, tellAll-same}
 
 -- ── The front and the back of the available list ───────────────────────────────────────────────────────────────────────
@@ -69,12 +71,12 @@ module _ (p : SlotPool) (m : Pool) (c : Conn) (cs : List Conn) (k : ℕ) (st : S
 
 -- ── Perished ones ──────────────────────────────────────────────────────────────────────────────────────────────────────
 
-stale-same : {p : SlotPool} {m : Pool} (a : Alike p m) (i : ℕ) (c : Conn) → shown p i ≡ c → S.staleAt p i ≡ P.stale m c
+stale-same : {p : SlotPool} {m : Pool} (a : Alike p m) (i : ℕ) (c : Conn) → shown p i ≡ c → View.staleAt p i ≡ P.stale m c
 stale-same {p} {m} a i c e = ap (λ (x : Conn). staleIn (p .generation) (x .generation)) e ∙ ap (λ (x : ℕ). staleIn x (c .generation)) (a .generation)
 
-pub perished-same : {p : SlotPool} {m : Pool} (a : Alike p m) (i : ℕ) (c : Conn) → shown p i ≡ c → S.perishedAt p i ≡ P.perished m c
+pub perished-same : {p : SlotPool} {m : Pool} (a : Alike p m) (i : ℕ) (c : Conn) → shown p i ≡ c → View.perishedAt p i ≡ P.perished m c
 perished-same {p} {m} a i c e =
-    ap (λ (x : Bool). x || idleFor (p .options .idle) (S.slotAt p i .time) (p .clock)) (stale-same a i c e)
+    ap (λ (x : Bool). x || idleFor (p .options .idle) (View.slotAt p i .time) (p .clock)) (stale-same a i c e)
     ∙ ap (λ (x : Conn). P.stale m c || idleFor (p .options .idle) (x .time) (p .clock)) e
     ∙ ap (λ (x : Options). P.stale m c || idleFor (x .idle) (c .time) (p .clock)) (a .options)
     ∙ ap (λ (x : ℕ). P.stale m c || idleFor (m .options .idle) (c .time) x) (a .clock)
@@ -82,8 +84,8 @@ perished-same {p} {m} a i c e =
 pub closePerished-same : (i : ℕ) (c : Conn) (p : SlotPool) (m : Pool) → Transit p m i → shown p i ≡ c → Same (S.closePerishedAt i p) (D.closePerished c m)
 unfolding S.closePerishedAt D.closePerished
 closePerished-same i c p m tr e =
-    subst (λ (r : ClosedReason). Same (S.closeAt (if S.staleAt p i then Stale else Idle) i p) (D.close r (c .id) m)) (ap (λ (b : Bool). if b then Stale else Idle) (stale-same (tr .alike) i c e))
-    (closeAt-same (if S.staleAt p i then Stale else Idle) i (c .id) p m tr (ap (λ (x : Conn). x .id) e))
+    subst (λ (r : ClosedReason). Same (S.closeAt (if View.staleAt p i then Stale else Idle) i 0 p) (D.close r (c .id) 0 m)) (ap (λ (b : Bool). if b then Stale else Idle) (stale-same (tr .alike) i c e))
+    (closeAt-same (if View.staleAt p i then Stale else Idle) i (c .id) 0 p m tr (ap (λ (x : Conn). x .id) e))
 
 -- closing changes no count but the total
 pub close-counts : (i : ℕ) (p : SlotPool) → (S.closePerishedAt i p .pool .availables ≡ p .availables) × (S.closePerishedAt i p .pool .total ≡ p .total - 1)
@@ -167,11 +169,11 @@ maintenance-same p m st =
 -- ── Closing all ────────────────────────────────────────────────────────────────────────────────────────────────────────
 
 abbrev closings : List Conn → List Record
-closings l = map (λ c. ConnectionClosed PoolClosed (c .id)) l
+closings l = map closedWithPool l
 
-closeAt-counts : (r : ClosedReason) (i : ℕ) (p : SlotPool) → S.closeAt r i p .pool .availables ≡ p .availables
+closeAt-counts : (r : ClosedReason) (i other : ℕ) (p : SlotPool) → S.closeAt r i other p .pool .availables ≡ p .availables
 unfolding S.closeAt _>>_
-closeAt-counts r i p = refl
+closeAt-counts r i other p = refl
 
 pub closeFront-same : (k : ℕ) (l : List Conn) (p : SlotPool) (m : Pool) → Stands p m → m .available ≡ l → k ≡ p .availables → Same (S.closeFront k p) (emitAll (closings l) (P.withAvailable m []))
 unfolding S.closeFront S.popFront _>>_
@@ -181,8 +183,8 @@ closeFront-same (suc k) [] p m st e n = absurd (omega (arith, counted (st .table
 closeFront-same (suc k) (c ∷ cs) p m st e n =
     let i = getD (p .available) 0 0 in
     let tr = front-transit p m c cs k st n e in
-    let cl = closeAt-same PoolClosed i (c .id) (S.popFront p .pool) (P.withAvailable m cs) tr (ap (λ (x : Conn). x .id) (front-shown p m c cs k st n e)) in
-    let more = closeFront-same k cs _ _ (cl .stands) refl (omega (arith, closeAt-counts PoolClosed i (S.popFront p .pool), front-counts i p)) in
+    let cl = closeAt-same PoolClosed i (c .id) 0 (S.popFront p .pool) (P.withAvailable m cs) tr (ap (λ (x : Conn). x .id) (front-shown p m c cs k st n e)) in
+    let more = closeFront-same k cs _ _ (cl .stands) refl (omega (arith, closeAt-counts PoolClosed i 0 (S.popFront p .pool), front-counts i p)) in
     record { records = rw (cl .records, more .records); stands = more .stands }
 
 pub shut-same : (p : SlotPool) (m : Pool) → Stands p m → Same (S.shut p) (D.shut m)

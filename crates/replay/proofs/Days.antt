@@ -10,7 +10,8 @@ use Rattle.definition.specs.Refusals.{enoughRoom}
 use Rattle.definition.specs.Words.{if_then_else_, _=?_, _≤?_}
 use Rattle.slots.specs.View.{SlotPool}
 use Rattle.slots.specs.declared.Head.{Head}
-use Rattle.refinement.specs.Formed.{freshHead, overBlank, freshSlots, fresh-parts}
+use Rattle.refinement.specs.Alike.{freshHead, freshSlots}
+use Rattle.refinement.specs.Formed.{overBlank, fresh-parts}
 use Rattle.text.specs.Printed.{tail-more}
 use Rattle.replay.specs.declared.Phase.the-variants.{First}
 use Rattle.replay.specs.declared.Run.{Run}

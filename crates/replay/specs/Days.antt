@@ -10,7 +10,7 @@ use Rattle.refinement.specs.Table.{and-both}
 use Rattle.definition.specs.Words.{if_then_else_, _=?_, _≤?_, _<?_}
 use Rattle.definition.specs.Day.{logOf, framesUsed}
 use Rattle.definition.specs.declared.Options.{Options}
-use Rattle.refinement.specs.Formed.{freshSlots}
+use Rattle.refinement.specs.Alike.{freshSlots}
 use Rattle.replay.specs.declared.Day.{Day}
 use Rattle.replay.specs.Feed.{Took, Machine, View, Fed, lineRoom, stop, joined, emptied, lineAt, push, feed, feed-nil, feedIn, goOn, andThen, ended, finish, some-reads}
 use Rattle.replay.specs.Chunks.{go-stops}

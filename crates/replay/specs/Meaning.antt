@@ -26,7 +26,8 @@ use Rattle.slots.specs.declared.Outcome.{Outcome}
 use Rattle.slots.specs.declared.Outcome.the-variants.{Refused, Accepted}
 use Rattle.refinement.specs.Stands.{Stands}
 use Rattle.refinement.specs.Call.{Refines, call-refines, refines-stands}
-use Rattle.refinement.specs.Formed.{freshSlots, fresh-stands}
+use Rattle.refinement.specs.Alike.{freshSlots}
+use Rattle.refinement.specs.Formed.{fresh-stands}
 use Rattle.text.specs.Printed.{printed}
 use Rattle.replay.specs.declared.Phase.{Phase}
 use Rattle.replay.specs.declared.Phase.the-variants as phase

@@ -16,7 +16,7 @@ use Rattle.slots.specs.View.{SlotPool}
 use Rattle.slots.specs.Call.{World, call}
 use Rattle.slots.specs.declared.Outcome.{Outcome}
 use Rattle.slots.specs.declared.Outcome.the-variants.{Refused, Accepted}
-use Rattle.refinement.specs.Formed.{freshSlots}
+use Rattle.refinement.specs.Alike.{freshSlots}
 use Rattle.text.specs.Printed.{printed}
 use Rattle.replay.specs.declared.Phase.{Phase}
 use Rattle.replay.specs.declared.Phase.the-variants.{First, Going, Ended}

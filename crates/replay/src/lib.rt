@@ -9,7 +9,7 @@ ghost use Rattle.definition.specs.Bytes.{frameOfLine, optionsOfLine};
 ghost use Rattle.slots.specs.View.{given, before, after};
 ghost use Rattle.slots.specs.Call.{call};
 ghost use Rattle.refinement.specs.Stands.{Formed};
-ghost use Rattle.refinement.specs.Formed.{freshHead};
+ghost use Rattle.refinement.specs.Alike.{freshHead};
 ghost use Rattle.replay.specs.Feed.{lineRoom, finish, goOn};
 ghost use Rattle.replay.specs.Chunks.{lineLen, clean, chunkOf};
 ghost use Rattle.replay.specs.OnSlots.{answered, lineSlots, onSlots};

@@ -7,13 +7,12 @@ use native.Mathlib.Omega.{arith}
 use lib.ListN.{length, getD}
 use borrow.Author.Tests.{eq-eqb, ne-eqb, eqb-false, not-true}
 use Rattle.definition.specs.Words.{if_then_else_, _=?_}
-use Rattle.slots.specs.View.{Slot, waiterOf}
-use Rattle.slots.specs.Slots.{vacant}
+use Rattle.slots.specs.View.{Slot, waiterOf, vacant}
 use Rattle.slots.specs.Needs.{taken}
 use Rattle.refinement.specs.Table.{by-eq, by-bool, one, one-pos, one-zero, or-left, or-right}
 use Rattle.refinement.specs.Agree.{Class}
 use Rattle.refinement.specs.Mirror.{All, Distinct, all-at}
-use Rattle.refinement.specs.Stands.{Rises}
+use Rattle.refinement.specs.Alike.{Rises}
 use Rattle.refinement.specs.Rules.{many, collect, bit, many-none, many-bit, taken-cons}
 use Rattle.rules.specs.Tests.{every, tally, among, isTaken, before}
 

@@ -12,15 +12,16 @@ use Rattle.definition.specs.Pool.{queueLength, inRange, slotCount}
 use Rattle.definition.specs.Refusals.{mostNextId}
 use Rattle.definition.specs.declared.Options.{Options}
 use Rattle.slots.specs.declared.Head.{Head}
-use Rattle.slots.specs.View.{SlotPool, Slot, poolOf, Whole, waiterOf}
+use Rattle.slots.specs.View.{SlotPool, Slot, poolOf, Whole, waiterOf, vacant}
+use Rattle.slots.specs.View as View
 use Rattle.slots.specs.Slots as S
-use Rattle.slots.specs.Slots.{vacant}
 use Rattle.slots.specs.Needs.{taken}
 use Rattle.slots.specs.Parts.{slot-at}
 use Rattle.refinement.specs.Table.{by-eq, by-lt, Unique}
 use Rattle.refinement.specs.Agree.{Class}
 use Rattle.refinement.specs.Mirror.{isPending, All, Distinct, Listed, Used, all-at}
-use Rattle.refinement.specs.Stands.{Limits, Rises, Formed}
+use Rattle.refinement.specs.Alike.{Limits, Rises}
+use Rattle.refinement.specs.Stands.{Formed}
 use Rattle.refinement.specs.Formed.{limits-of}
 use Rattle.refinement.specs.Rules.{Rules, isShelved, many, rules-formed, formed-rules}
 use Rattle.rules.specs.Tests.{every, tally, among, isTaken, blankPast, slotFits, before, waiterFits, idsBelow, newId, idsDistinct, slotsFit, howMany, countsRight, listedAt, orderRight, blankFrom, queueRises, keepsRules}
@@ -96,29 +97,29 @@ module _ (h : Head) (cs ts ss ws : List ℕ) (w : Whole (poolOf h cs ts ss ws)) 
   abbrev P : SlotPool
   P = poolOf h cs ts ss ws
 
-  id-of : (j : ℕ) → j < slotCount → S.idAt P j ≡ getD cs j 0
+  id-of : (j : ℕ) → j < slotCount → View.idAt P j ≡ getD cs j 0
   id-of j low = getD-take slotCount cs j 0 low
 
-  state-of : (j : ℕ) → j < slotCount → S.slotAt P j .state ≡ getD ss j 0
+  state-of : (j : ℕ) → j < slotCount → View.slotAt P j .state ≡ getD ss j 0
   state-of j low = ap (λ (s : Slot). s .state) (slot-at h cs ts ss ws w j low)
 
   fit-at : slotsFit cs ts ss ≡ true → (j : ℕ) → j < slotCount → slotFits (getD cs j 0) (getD cs (slotCount + j) 0) (getD ts j 0) (getD ss j 0) ≡ true
   unfolding slotsFit
   fit-at f = every-all slotCount (λ i. slotFits (getD cs i 0) (getD cs (slotCount + i) 0) (getD ts i 0) (getD ss i 0)) f
 
-  slots-blank : slotsFit cs ts ss ≡ true → (j : ℕ) → S.idAt P j ≡ 0 → S.slotAt P j ≡ vacant
+  slots-blank : slotsFit cs ts ss ≡ true → (j : ℕ) → View.idAt P j ≡ 0 → View.slotAt P j ≡ vacant
   slots-blank f j e =
       by-lt j slotCount
       (λ k. slot-at h cs ts ss ws w j k ∙ vacant-say (getD cs j 0) (getD cs (slotCount + j) 0) (getD ts j 0) (getD ss j 0) (sym (id-of j k) ∙ e) (fit-at f j k))
       (λ k. past (P .slots) vacant j (omega (arith, w .slots)))
 
-  slots-used : slotsFit cs ts ss ≡ true → (j : ℕ) → 0 < S.idAt P j → Used (S.slotAt P j)
+  slots-used : slotsFit cs ts ss ≡ true → (j : ℕ) → 0 < View.idAt P j → Used (View.slotAt P j)
   slots-used f j z =
       by-lt j slotCount
       (λ k. let r = used-say (getD cs j 0) (getD cs (slotCount + j) 0) (getD ts j 0) (getD ss j 0) (omega (arith, id-of j k)) (fit-at f j k) in (omega (arith, state-of j k, r .0), omega (arith, state-of j k, r .1)))
       (λ k. absurd (omega (arith, past (P .ids) 0 j (omega (arith, w .ids)))))
 
-  slots-pass : ((j : ℕ) → S.idAt P j ≡ 0 → S.slotAt P j ≡ vacant) → ((j : ℕ) → 0 < S.idAt P j → Used (S.slotAt P j)) → slotsFit cs ts ss ≡ true
+  slots-pass : ((j : ℕ) → View.idAt P j ≡ 0 → View.slotAt P j ≡ vacant) → ((j : ℕ) → 0 < View.idAt P j → Used (View.slotAt P j)) → slotsFit cs ts ss ≡ true
   unfolding slotsFit
   slots-pass b u = all-every slotCount (λ i. slotFits (getD cs i 0) (getD cs (slotCount + i) 0) (getD ts i 0) (getD ss i 0)) (λ j k.
       let g = getD cs (slotCount + j) 0 in
@@ -135,14 +136,14 @@ module _ (h : Head) (cs ts ss ws : List ℕ) (w : Whole (poolOf h cs ts ss ws)) 
   states-counted : (t : Class) → howMany t ss ≡ tally (length (P .ids)) (kinds t (P .slots))
   states-counted t = tally-same slotCount (λ i. t (getD ss i 0)) (kinds t (P .slots)) (λ j k. ap t (sym (state-of j k))) ∙ ap (λ (n : ℕ). tally n (kinds t (P .slots))) (sym (w .ids))
 
-  module _ (b : (j : ℕ) → S.idAt P j ≡ 0 → S.slotAt P j ≡ vacant) where
+  module _ (b : (j : ℕ) → View.idAt P j ≡ 0 → View.slotAt P j ≡ vacant) where
     how-many : (t : Class) → t 0 ≡ false → howMany t ss ≡ many t (P .ids) (P .slots)
     how-many t f = states-counted t ∙ sym (many-tally t (P .ids) (P .slots) (omega (arith, w .ids, w .slots)) (λ j e. ap (λ (s : Slot). t (s .state)) (b j e) ∙ f))
 
-    how-taken : ((j : ℕ) → 0 < S.idAt P j → Used (S.slotAt P j)) → howMany isTaken ss ≡ taken (P .ids)
+    how-taken : ((j : ℕ) → 0 < View.idAt P j → Used (View.slotAt P j)) → howMany isTaken ss ≡ taken (P .ids)
     how-taken u = states-counted isTaken ∙ sym (taken-tally (P .ids) (P .slots) (omega (arith, w .ids, w .slots))
         (λ j e. ap (λ (s : Slot). isTaken (s .state)) (b j e))
-        (λ j z. ap not (ne-eqb (S.slotAt P j .state) 0 (λ q. omega (arith, u j z .0)))))
+        (λ j z. ap not (ne-eqb (View.slotAt P j .state) 0 (λ q. omega (arith, u j z .0)))))
 
   -- ── The order list ──
 
@@ -157,7 +158,7 @@ module _ (h : Head) (cs ts ss ws : List ℕ) (w : Whole (poolOf h cs ts ss ws)) 
   order-long : h .«available_count» ≤ slotCount → length (take (h .«available_count») (drop slotCount ss)) ≡ h .«available_count»
   order-long f = length-take-le (h .«available_count») (drop slotCount ss) (omega (arith, w .available))
 
-  order-listed : ((j : ℕ) → S.idAt P j ≡ 0 → S.slotAt P j ≡ vacant) → orderRight (drop slotCount ss) ss (h .«available_count») ≡ true → All (Listed (P .ids) (P .slots)) (take (h .«available_count») (drop slotCount ss))
+  order-listed : ((j : ℕ) → View.idAt P j ≡ 0 → View.slotAt P j ≡ vacant) → orderRight (drop slotCount ss) ss (h .«available_count») ≡ true → All (Listed (P .ids) (P .slots)) (take (h .«available_count») (drop slotCount ss))
   order-listed b t =
       let n = h .«available_count» in
       let a = drop slotCount ss in
@@ -167,8 +168,8 @@ module _ (h : Head) (cs ts ss ws : List ℕ) (w : Whole (poolOf h cs ts ss ws)) 
       let q = order-at t j low in
       let r = and-right (e <? slotCount) (isShelved (getD ss e 0) && not (among e j a)) q in
       let i : e < slotCount = ltb-true e slotCount (and-left (e <? slotCount) (isShelved (getD ss e 0) && not (among e j a)) q) in
-      let s : S.slotAt P e .state ≡ 1 = state-of e i ∙ eqb-true (getD ss e 0) 1 (and-left (isShelved (getD ss e 0)) (not (among e j a)) r) in
-      rw (getD-take n a j 0 low) (i, by-eq (S.idAt P e) 0 (λ z. absurd (omega (arith, s, ap (λ (x : Slot). x .state) (b e z)))) (λ z. omega (arith, z)), s))
+      let s : View.slotAt P e .state ≡ 1 = state-of e i ∙ eqb-true (getD ss e 0) 1 (and-left (isShelved (getD ss e 0)) (not (among e j a)) r) in
+      rw (getD-take n a j 0 low) (i, by-eq (View.idAt P e) 0 (λ z. absurd (omega (arith, s, ap (λ (x : Slot). x .state) (b e z)))) (λ z. omega (arith, z)), s))
 
   order-distinct : orderRight (drop slotCount ss) ss (h .«available_count») ≡ true → Distinct (take (h .«available_count») (drop slotCount ss))
   order-distinct t =

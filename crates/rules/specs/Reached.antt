@@ -11,7 +11,8 @@ use Rattle.definition.specs.declared.Options.{Options}
 use Rattle.slots.specs.View.{SlotPool}
 use Rattle.slots.specs.Call as C
 use Rattle.refinement.specs.Call.{Refines, call-refines}
-use Rattle.refinement.specs.Formed.{Lent, ran, freshSlots, fresh-formed, ran-formed}
+use Rattle.refinement.specs.Alike.{freshSlots}
+use Rattle.refinement.specs.Formed.{Lent, ran, fresh-formed, ran-formed}
 use Rattle.refinement.specs.Rules.{Rules, listsOf, rules-stand, formed-rules}
 
 -- whatever calls are made of a fresh pool, the pool that they leave keeps the rules

@@ -10,14 +10,13 @@ use Rattle.definition.specs.Pool.{slotCount, idleFor}
 use Rattle.definition.specs.Steps.{_>>_}
 use Rattle.definition.specs.declared.ClosedReason.{ClosedReason}
 use Rattle.definition.specs.declared.ClosedReason.the-variants.{Idle, Stale}
-use Rattle.slots.specs.Order.{placeBy, place}
 use Rattle.slots.specs.OrderLaws.{shifted-below, length-shifted}
-use Rattle.slots.specs.View.{SlotPool, Slot, Whole, poolOf}
-use Rattle.slots.specs.Parts.{slot-at}
-use Rattle.slots.specs.Codes.{reasonOf, perishedNo}
+use Rattle.slots.specs.View.{SlotPool, Slot, Whole, slotsOf, orderIn, slotAt, staleAt, perishedAt}
+use Rattle.slots.specs.Parts.{slots-at}
+use Rattle.slots.specs.Codes.{reasonOf, perishedNo, Examines}
 use Rattle.slots.specs.CodeLaws.{perished-no}
 use Rattle.slots.specs.Needs.{taken, CanPrune}
-use Rattle.slots.specs.Slots.{slotAt, staleAt, perishedAt, closeAt, popFront, createPendingConnection, zeroed}
+use Rattle.slots.specs.Slots.{closeAt, popFront, createPendingConnection, zeroed}
 use Rattle.slots.specs.declared.Head.{Head}
 
 -- ── Ids taken ──
@@ -33,18 +32,6 @@ unfolding taken
 taken-set [] i v = omega arith
 taken-set (x ∷ l) zero v = omega (arith, if-most (v =? 0) (taken l))
 taken-set (x ∷ l) (suc i) v = omega (arith, taken-set l i v)
-
-place-if : (b : Bool) (n t x : ℕ) → (if b then 0 else 1) + t < suc n → (t < n → x < n) → (if b then 0 else suc x) < suc n
-unfolding if_then_else_
-place-if true n t x h f = omega arith
-place-if false n t x h f = omega (arith, f (omega arith))
-
--- where not all are taken, there is a vacant slot
-pub vacant-place : (n : ℕ) (l : List ℕ) → length l ≡ n → taken l < n → place 0 n l < n
-unfolding taken placeBy
-vacant-place zero l e h = absurd (omega arith)
-vacant-place (suc n) [] e h = absurd (omega arith)
-vacant-place (suc n) (x ∷ l) e h = place-if (x =? 0) n (taken l) _ h (vacant-place n l (omega arith))
 
 -- ── Cells cleared ──
 
@@ -77,16 +64,19 @@ healthy true c e = absurd (omega arith)
 healthy false true e = absurd (omega arith)
 healthy false false e = refl
 
--- what `perished` gives of slot i
+-- the number of why slot i is closed
 abbrev pub perishedNoAt : SlotPool → ℕ → ℕ
 perishedNoAt p i = perishedNo (p .generation) (p .options .idle) (p .clock) (slotAt p i .generation) (slotAt p i .time)
 
-pub perished-at : (h : Head) (cs ts ss ws : List ℕ) → Whole (poolOf h cs ts ss ws) → (i : ℕ) → i < slotCount
-    → perishedNo (h .status .generation) (h .options .idle) (h .clock) (getD cs (slotCount + i) 0) (getD ts i 0) ≡ perishedNoAt (poolOf h cs ts ss ws) i
-perished-at h cs ts ss ws w i low =
-    ap (λ (x : Slot). perishedNo (h .status .generation) (h .options .idle) (h .clock) (x .generation) (x .time)) (sym (slot-at h cs ts ss ws w i low))
+-- what `examine` gives: read off the columns, it is said of the slots
+pub examined : (h : Head) (ns ts ss : List ℕ) → length (slotsOf ns ts ss) ≡ slotCount → (k i r : ℕ) → i ≡ getD (orderIn ss) k 0 → i < slotCount
+    → r ≡ perishedNo (h .status .generation) (h .options .idle) (h .clock) (getD ns (slotCount + i) 0) (getD ts i 0) → Examines h (slotsOf ns ts ss) (orderIn ss) k i r
+examined h ns ts ss w k i r e low f = record {
+  slot = e;
+  reason = f ∙ ap (λ (s : Slot). perishedNo (h .status .generation) (h .options .idle) (h .clock) (s .generation) (s .time)) (sym (slots-at ns ts ss w i low));
+}
 
--- what follows from the number that `perished` gave
+-- what follows from it
 module _ (p : SlotPool) (i r : ℕ) (e : r ≡ perishedNoAt p i) where
   abbrev idleAt : Bool
   idleAt = idleFor (p .options .idle) (slotAt p i .time) (p .clock)
@@ -123,18 +113,18 @@ module _ (p : SlotPool) where
     listed = shifted-below slotCount (p .availables) (p .available) z (s .listed);
   }
 
-  pub closed-whole : (reason : ClosedReason) (i : ℕ) → Whole p → Whole (closeAt reason i p .pool)
+  pub closed-whole : (reason : ClosedReason) (i other : ℕ) → Whole p → Whole (closeAt reason i other p .pool)
   unfolding closeAt _>>_
-  closed-whole reason i w = record {
+  closed-whole reason i other w = record {
     ids = length-set (p .ids) i 0 ∙ w .ids;
     slots = length-set (p .slots) i _ ∙ w .slots;
     available = w .available;
     waiters = w .waiters;
   }
 
-  pub closed-prune : (reason : ClosedReason) (i : ℕ) → CanPrune p → p .availables < p .total → CanPrune (closeAt reason i p .pool)
+  pub closed-prune : (reason : ClosedReason) (i other : ℕ) → CanPrune p → p .availables < p .total → CanPrune (closeAt reason i other p .pool)
   unfolding closeAt _>>_
-  closed-prune reason i s h = record { counts = omega arith; fits = s .fits; listed = s .listed }
+  closed-prune reason i other s h = record { counts = omega arith; fits = s .fits; listed = s .listed }
 
   pub created-whole : (state : ℕ) → Whole p → Whole (createPendingConnection state p .pool)
   unfolding createPendingConnection _>>_

@@ -15,19 +15,19 @@ use Rattle.definition.specs.declared.Frame.{Frame}
 use Rattle.definition.specs.declared.Frame.the-variants.{Good, Bad}
 use Rattle.definition.specs.declared.Refusal.{Refusal}
 use Rattle.definition.specs.declared.Refusal.the-variants.{OutputShort, Malformed, ClockBack, AfterClose, NumbersSpent, OldRequest, QueueFull, WrongState, WrongTime, NotWaiting, AlreadyPinned}
-use Rattle.slots.specs.Order.{place, placeOf}
-use Rattle.slots.specs.View.{SlotPool}
-use Rattle.slots.specs.Slots.{slotAt, withClock, withSerial, event}
+use Rattle.slots.specs.Order.{slotHolding, placeOf}
+use Rattle.slots.specs.View.{SlotPool, slotAt, withClock, withSerial}
+use Rattle.slots.specs.Slots.{event}
 use Rattle.slots.specs.Done.{lay}
 use Rattle.slots.specs.declared.Verdict.{Verdict}
 use Rattle.slots.specs.declared.Verdict.the-variants.{Refuse, Accept}
 use Rattle.slots.specs.declared.Outcome.{Outcome}
 use Rattle.slots.specs.declared.Outcome.the-variants.{Refused, Accepted}
 
--- the slot of a connection's id, 64 where it has none; the place of a waiting request, past the last where it does not wait
+-- the slot of a connection's id, slotCount where it has none; the place of a waiting request, past the last where it does not wait
 module _ (p : SlotPool) (n : ℕ) where
   abbrev pub slotOf : ℕ
-  slotOf = place n slotCount (p .ids)
+  slotOf = slotHolding n (p .ids)
 
   abbrev pub waiterOf? : ℕ
   waiterOf? = placeOf n (p .waitings) (p .waiters)

@@ -8,9 +8,8 @@ use Rattle.definition.specs.Words.{if_then_else_, _≤?_}
 use Rattle.definition.specs.Pool.{Waiter, idleFor}
 use Rattle.definition.specs.Records.{Pooled, Establishing, Warmed, Cleared, Gone, fields, fieldsOf, replyFields, reasonNo, told}
 use Rattle.definition.specs.declared.ClosedReason.the-variants.{Idle, Stale, Error, Dropped, PoolClosed}
-use Rattle.slots.specs.View.{SlotPool}
+use Rattle.slots.specs.View.{SlotPool, slotAt, staleAt, perishedAt}
 use Rattle.slots.specs.Codes.{reasonOf, replyOf, IsReply, perishedNo}
-use Rattle.slots.specs.Slots.{slotAt, staleAt, perishedAt}
 
 -- ── The numbers are those of the records ──
 

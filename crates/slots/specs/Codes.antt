@@ -1,8 +1,12 @@
 -- The numbers that the code passes for reasons and replies.
 use mathlib.Core.Path.{_≡_}
+use mathlib.Core.List.{List}
 use Prim.Native.Nat.{ℕ, _≤_}
+use lib.ListN.{getD}
 use Rattle.definition.specs.Words.{if_then_else_, _≤?_}
 use Rattle.definition.specs.Pool.{staleIn, idleFor}
+use Rattle.slots.specs.View.{Slot, vacant}
+use Rattle.slots.specs.declared.Head.{Head}
 use Rattle.definition.specs.Records.{Reply, Pooled, Establishing, Warmed, Cleared, Gone}
 use Rattle.definition.specs.declared.ClosedReason.{ClosedReason}
 use Rattle.definition.specs.declared.ClosedReason.the-variants.{Idle, Stale, Error, Dropped, PoolClosed}
@@ -21,3 +25,8 @@ pub record IsReply (kind other : ℕ) : Type 0 where
 -- why an available connection is closed: 2 stale, else 1 idle, 0 not at all
 abbrev pub perishedNo : (generation limit now : ℕ) → (made since : ℕ) → ℕ
 perishedNo generation limit now made since = if staleIn generation made then 2 else if idleFor limit since now then 1 else 0
+
+-- of the available connection at place k: its slot, and the number of why it is closed
+pub record Examines (h : Head) (slots : List Slot) (order : List ℕ) (k i r : ℕ) : Type 0 where
+  pub slot : i ≡ getD order k 0
+  pub reason : r ≡ perishedNo (h .status .generation) (h .options .idle) (h .clock) (getD slots i vacant .generation) (getD slots i vacant .time)

@@ -1,36 +1,120 @@
--- Two columns in one array: the front n cells, and those behind them.
-use mathlib.Core.Path.{_≡_, refl, ap, _∙_}
-use mathlib.Core.List.{List, [], _∷_}
-use Prim.Native.Nat.{ℕ, zero, suc, _+_, _≤_, _<_}
+-- Columns of slotCount cells each, one behind the other in one array; and columns read side by side.
+use mathlib.Core.Path.{_≡_, refl, ap, sym, _∙_}
+use mathlib.Core.List.{List, [], _∷_, _++_}
+use Prim.Native.Nat.{ℕ, zero, suc, _+_, _*_, _-_, _≤_, _<_}
 use native.Mathlib.Omega.{arith}
-use lib.ListN.{take, drop, set}
+use lib.ListN.{length, getD, set, take, drop, length-drop, length-take, replicate}
+use lib.Seq.{getD-take, getD-drop, take-set-le, take-set-lt, drop-set-lt, drop-set-add}
+use Rattle.definition.specs.Pool.{slotCount}
 
-pub front-set : (n : ℕ) (l : List ℕ) (i v : ℕ) → take n (set l i v) ≡ set (take n l) i v
-front-set zero l i v = refl
-front-set (suc n) [] i v = refl
-front-set (suc n) (x ∷ l) zero v = refl
-front-set (suc n) (x ∷ l) (suc i) v = ap (λ (r : List ℕ). x ∷ r) (front-set n l i v)
+-- ── Columns in one array ───────────────────────────────────────────────────────────────────────────────────────────────
 
-pub front-kept : (n : ℕ) (l : List ℕ) (i v : ℕ) → n ≤ i → take n (set l i v) ≡ take n l
-front-kept zero l i v h = refl
-front-kept (suc n) [] i v h = refl
-front-kept (suc n) (x ∷ l) zero v h = absurd (omega arith)
-front-kept (suc n) (x ∷ l) (suc i) v h = ap (λ (r : List ℕ). x ∷ r) (front-kept n l i v (omega arith))
+-- column k of an array; its cell i is cell offset k + i
+abbrev pub offset : ℕ → ℕ
+offset k = k * slotCount
 
-pub back-set : (n : ℕ) (l : List ℕ) (i v : ℕ) → drop n (set l (n + i) v) ≡ set (drop n l) i v
-back-set zero l i v = let e : 0 + i ≡ i = omega arith in rw e
-back-set (suc n) [] i v = refl
-back-set (suc n) (x ∷ l) i v = let e : suc n + i ≡ suc (n + i) = omega arith in rw e (back-set n l i v)
+unfoldable pub column : ℕ → List ℕ → List ℕ
+column k l = take slotCount (drop (offset k) l)
 
-pub back-kept : (n : ℕ) (l : List ℕ) (i v : ℕ) → i < n → drop n (set l i v) ≡ drop n l
-back-kept zero l i v h = absurd (omega arith)
-back-kept (suc n) [] i v h = refl
-back-kept (suc n) (x ∷ l) zero v h = refl
-back-kept (suc n) (x ∷ l) (suc i) v h = back-kept n l i v (omega arith)
+module _ (k : ℕ) (l : List ℕ) where
+  pub column-at : (i : ℕ) → i < slotCount → getD (column k l) i 0 ≡ getD l (offset k + i) 0
+  unfolding column
+  column-at i h = getD-take slotCount (drop (offset k) l) i 0 h ∙ getD-drop (offset k) l i 0
 
--- one place changed in both
-pub front-put : (n : ℕ) (l : List ℕ) (i x y : ℕ) → take n (set (set l i x) (n + i) y) ≡ set (take n l) i x
-front-put n l i x y = front-kept n (set l i x) (n + i) y (omega arith) ∙ front-set n l i x
+  pub column-long : offset k + slotCount ≤ length l → length (column k l) ≡ slotCount
+  unfolding column
+  column-long h = simp (length-take, length-drop) (omega arith)
 
-pub back-put : (n : ℕ) (l : List ℕ) (i x y : ℕ) → i < n → drop n (set (set l i x) (n + i) y) ≡ set (drop n l) i y
-back-put n l i x y h = back-set n (set l i x) i y ∙ ap (λ (r : List ℕ). set r i y) (back-kept n l i x h)
+  pub long-column : length (column k l) ≡ slotCount → offset k + slotCount ≤ length l
+  unfolding column
+  long-column h = omega (arith, simp (length-take, length-drop) at h)
+
+  -- a cell of it is set
+  pub column-set : (i j v : ℕ) → j ≡ offset k + i → i < slotCount → column k (set l j v) ≡ set (column k l) i v
+  unfolding column
+  column-set i j v e h =
+      ap (λ (x : ℕ). take slotCount (drop (offset k) (set l x v))) e
+      ∙ ap (take slotCount) (drop-set-add (offset k) l i v)
+      ∙ take-set-lt slotCount (drop (offset k) l) i v h
+
+  -- a cell of another one is set: one before it, or one behind it
+  pub column-before : (j v : ℕ) → j < offset k → column k (set l j v) ≡ column k l
+  unfolding column
+  column-before j v h = ap (take slotCount) (drop-set-lt (offset k) l j v h)
+
+  pub column-behind : (j v : ℕ) → offset k + slotCount ≤ j → column k (set l j v) ≡ column k l
+  unfolding column
+  column-behind j v h =
+      let e : j ≡ offset k + (j - offset k) = omega arith in
+      ap (λ (x : ℕ). take slotCount (drop (offset k) (set l x v))) e
+      ∙ ap (take slotCount) (drop-set-add (offset k) l (j - offset k) v)
+      ∙ take-set-le slotCount (drop (offset k) l) (j - offset k) v (omega arith)
+
+drop-replicate : (n m v : ℕ) → drop n (replicate (n + m) v) ≡ replicate m v
+drop-replicate zero m v = let e : 0 + m ≡ m = omega arith in rw e
+drop-replicate (suc n) m v = let e : suc n + m ≡ suc (n + m) = omega arith in rw e (drop-replicate n m v)
+
+take-replicate : (n m v : ℕ) → take n (replicate (n + m) v) ≡ replicate n v
+take-replicate zero m v = refl
+take-replicate (suc n) m v = let e : suc n + m ≡ suc (n + m) = omega arith in rw e (ap (λ (r : List ℕ). v ∷ r) (take-replicate n m v))
+
+part-blank : (o n m v : ℕ) → o + n ≤ m → take n (drop o (replicate m v)) ≡ replicate n v
+part-blank o n m v h =
+    let e : m ≡ o + (n + (m - o - n)) = omega arith in
+    ap (λ (x : ℕ). take n (drop o (replicate x v))) e ∙ ap (take n) (drop-replicate o (n + (m - o - n)) v) ∙ take-replicate n (m - o - n) v
+
+-- a column of a blank array is blank
+pub column-blank : (k m : ℕ) → offset k + slotCount ≤ m → column k (replicate m 0) ≡ replicate slotCount 0
+unfolding column
+column-blank k m h = part-blank (offset k) slotCount m 0 h
+
+-- ── Columns side by side ───────────────────────────────────────────────────────────────────────────────────────────────
+
+module _ {A B C : Type 0} (f : A → B → C) where
+  unfoldable pub zip : List A → List B → List C
+  zip [] ys = []
+  zip (a ∷ xs) [] = []
+  zip (a ∷ xs) (b ∷ ys) = f a b ∷ zip xs ys
+
+  pub zip-set : (xs : List A) (ys : List B) (i : ℕ) (a : A) (b : B) → zip (set xs i a) (set ys i b) ≡ set (zip xs ys) i (f a b)
+  unfolding zip
+  zip-set [] ys i a b = refl
+  zip-set (x ∷ xs) [] zero a b = refl
+  zip-set (x ∷ xs) [] (suc i) a b = refl
+  zip-set (x ∷ xs) (y ∷ ys) zero a b = refl
+  zip-set (x ∷ xs) (y ∷ ys) (suc i) a b = ap (λ (r : List C). f x y ∷ r) (zip-set xs ys i a b)
+
+  -- only the second is set
+  pub zip-set-second : (xs : List A) (ys : List B) (i : ℕ) (a : A) (b : B) → zip xs (set ys i b) ≡ set (zip xs ys) i (f (getD xs i a) b)
+  unfolding zip
+  zip-set-second [] ys i a b = refl
+  zip-set-second (x ∷ xs) [] zero a b = refl
+  zip-set-second (x ∷ xs) [] (suc i) a b = refl
+  zip-set-second (x ∷ xs) (y ∷ ys) zero a b = refl
+  zip-set-second (x ∷ xs) (y ∷ ys) (suc i) a b = ap (λ (r : List C). f x y ∷ r) (zip-set-second xs ys i a b)
+
+  pub zip-at : (xs : List A) (ys : List B) (i : ℕ) (a : A) (b : B) (c : C) → i < length (zip xs ys) → getD (zip xs ys) i c ≡ f (getD xs i a) (getD ys i b)
+  unfolding zip
+  zip-at [] ys i a b c h = absurd (omega arith)
+  zip-at (x ∷ xs) [] i a b c h = absurd (omega arith)
+  zip-at (x ∷ xs) (y ∷ ys) zero a b c h = refl
+  zip-at (x ∷ xs) (y ∷ ys) (suc i) a b c h = zip-at xs ys i a b c (omega arith)
+
+  -- as long as both, where they are equally long; and no longer than either
+  pub zip-long : (xs : List A) (ys : List B) (n : ℕ) → length xs ≡ n → length ys ≡ n → length (zip xs ys) ≡ n
+  unfolding zip
+  zip-long [] ys n d e = d
+  zip-long (x ∷ xs) [] n d e = absurd (omega arith)
+  zip-long (x ∷ xs) (y ∷ ys) zero d e = absurd (omega arith)
+  zip-long (x ∷ xs) (y ∷ ys) (suc n) d e = ap suc (zip-long xs ys n (omega arith) (omega arith))
+
+  pub zip-fits : (xs : List A) (ys : List B) → (length (zip xs ys) ≤ length xs) × (length (zip xs ys) ≤ length ys)
+  unfolding zip
+  zip-fits [] ys = (omega arith, omega arith)
+  zip-fits (x ∷ xs) [] = (omega arith, omega arith)
+  zip-fits (x ∷ xs) (y ∷ ys) = let r = zip-fits xs ys in (omega (arith, r .0), omega (arith, r .1))
+
+  pub zip-replicate : (n : ℕ) (a : A) (b : B) → zip (replicate n a) (replicate n b) ≡ replicate n (f a b)
+  unfolding zip
+  zip-replicate zero a b = refl
+  zip-replicate (suc n) a b = ap (λ (r : List C). f a b ∷ r) (zip-replicate n a b)

@@ -7,9 +7,11 @@ pub mod Done
 pub mod Slots
 pub mod Call
 pub mod Needs
+pub mod Finding
 pub mod Codes
 pub mod Parts
 pub mod DoneLaws
 pub mod CodeLaws
 pub mod StepLaws
 pub mod ActLaws
+pub mod ActExits

@@ -5,7 +5,7 @@ use Prim.Native.Nat.{ℕ, _+_, _≤_, _<_}
 use lib.ListN.{getD}
 use Rattle.definition.specs.Pool.{queueLength, slotCount}
 use Rattle.definition.specs.Words.{if_then_else_, _=?_}
-use Rattle.slots.specs.Order.{place}
+use Rattle.slots.specs.Order.{vacantSlot}
 use Rattle.slots.specs.View.{SlotPool, Whole}
 
 -- how many ids are not 0
@@ -15,7 +15,7 @@ taken (x ∷ l) = (if x =? 0 then 0 else 1) + taken l
 
 -- there is a vacant slot, and a number for what goes there
 pub record CanCreate (p : SlotPool) : Type 0 where
-  pub spot : place 0 slotCount (p .ids) < slotCount
+  pub spot : vacantSlot (p .ids) < slotCount
   pub ids : p .nextId < 4294967295
   pub total : p .total < 4294967295
   pub pending : p .pendings < 4294967295
@@ -63,20 +63,20 @@ pub record CanClear (p : SlotPool) : Type 0 where
 
 pub record CanTake (p : SlotPool) : Type 0 where
   pub prune : CanPrune p
-  pub spot : p .availables ≡ 0 → place 0 slotCount (p .ids) < slotCount
+  pub spot : p .availables ≡ 0 → vacantSlot (p .ids) < slotCount
   pub ids : p .nextId < 4294967295
   pub total : p .total < 4294967295
   pub pending : p .pendings < 4294967295
 
 -- a pool below its minimum has a vacant slot
 pub record CanWarm (p : SlotPool) : Type 0 where
-  pub spot : p .total < p .options .minimum → place 0 slotCount (p .ids) < slotCount
+  pub spot : p .total < p .options .minimum → vacantSlot (p .ids) < slotCount
 
 -- a pool below its maximum has a vacant slot
 pub record CanServe (p : SlotPool) : Type 0 where
   pub prune : CanPrune p
   pub minimum : p .options .minimum ≤ p .options .maximum
-  pub spot : p .total < p .options .maximum → place 0 slotCount (p .ids) < slotCount
+  pub spot : p .total < p .options .maximum → vacantSlot (p .ids) < slotCount
   pub queue : p .waitings ≤ queueLength
   pub ids : p .nextId < 4294967295
   pub total : p .total < 4294967295

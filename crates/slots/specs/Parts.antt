@@ -1,112 +1,115 @@
 -- What a change of the lent parts is to the pool that they make.
 use mathlib.Core.Path.{_≡_, refl, sym, ap, _∙_}
-use mathlib.Core.List.{List, [], _∷_}
-use Prim.Native.Nat.{ℕ, zero, suc, _+_, _-_, _≤_, _<_, _*_}
+use mathlib.Core.List.{List}
+use Prim.Native.Nat.{ℕ, _+_, _≤_, _<_}
 use native.Mathlib.Omega.{arith}
-use lib.ListN.{length, getD, set, take, drop, length-drop}
-use lib.Seq.{getD-take, getD-drop}
+use lib.ListN.{length, getD, set, replicate}
 use Rattle.definition.specs.Pool.{slotCount}
-use Rattle.slots.specs.Columns.{front-set, front-kept, back-set, back-kept, front-put, back-put}
-use Rattle.slots.specs.View.{SlotPool, Slot, rows, poolOf, Whole}
-use Rattle.slots.specs.Order.{place}
-use Rattle.slots.specs.Slots.{vacant, withState, withTable, withAvailable, idAt, slotAt}
+use Rattle.slots.specs.Columns.{offset, column, column-at, long-column, column-set, column-before, column-behind, column-blank, zip, zip-set, zip-set-second, zip-at, zip-fits, zip-replicate}
+use Rattle.slots.specs.Order.{vacantSlot}
+use Rattle.slots.specs.View.{SlotPool, Slot, slot, vacant, withState, withTable, withAvailable, idAt, slotAt, idsIn, generationsIn, statesIn, orderIn, slotsOf, poolOf, Whole}
 use Rattle.slots.specs.declared.Head.{Head}
 
--- ── Rows ──
+-- ── The slots ──────────────────────────────────────────────────────────────────────────────────────────────────────────
 
-pub rows-set : (gs ts ss : List ℕ) (i g t s : ℕ)
-    → rows (set gs i g) (set ts i t) (set ss i s) ≡ set (rows gs ts ss) i (record { generation = g; time = t; state = s })
-unfolding rows
-rows-set [] ts ss i g t s = refl
-rows-set (x ∷ gs) [] ss zero g t s = refl
-rows-set (x ∷ gs) [] ss (suc i) g t s = refl
-rows-set (x ∷ gs) (y ∷ ts) [] zero g t s = refl
-rows-set (x ∷ gs) (y ∷ ts) [] (suc i) g t s = refl
-rows-set (x ∷ gs) (y ∷ ts) (z ∷ ss) zero g t s = refl
-rows-set (x ∷ gs) (y ∷ ts) (z ∷ ss) (suc i) g t s = ap (λ (r : List Slot). record { generation = x; time = y; state = z } ∷ r) (rows-set gs ts ss i g t s)
+abbrev applied : (ℕ → Slot) → ℕ → Slot
+applied f s = f s
 
-pub rows-set-state : (gs ts ss : List ℕ) (i t s : ℕ)
-    → rows gs (set ts i t) (set ss i s) ≡ set (rows gs ts ss) i (withState s t (getD (rows gs ts ss) i vacant))
-unfolding rows
-rows-set-state [] ts ss i t s = refl
-rows-set-state (x ∷ gs) [] ss zero t s = refl
-rows-set-state (x ∷ gs) [] ss (suc i) t s = refl
-rows-set-state (x ∷ gs) (y ∷ ts) [] zero t s = refl
-rows-set-state (x ∷ gs) (y ∷ ts) [] (suc i) t s = refl
-rows-set-state (x ∷ gs) (y ∷ ts) (z ∷ ss) zero t s = refl
-rows-set-state (x ∷ gs) (y ∷ ts) (z ∷ ss) (suc i) t s = ap (λ (r : List Slot). record { generation = x; time = y; state = z } ∷ r) (rows-set-state gs ts ss i t s)
+-- a generation, a time and a state are put in every column
+slots-put : (ns ns' ts ss ss' : List ℕ) (i g t s : ℕ) → generationsIn ns' ≡ set (generationsIn ns) i g → statesIn ss' ≡ set (statesIn ss) i s
+    → slotsOf ns' (set ts i t) ss' ≡ set (slotsOf ns ts ss) i (slot g t s)
+unfolding slotsOf
+slots-put ns ns' ts ss ss' i g t s e f =
+    rw (e, f, zip-set slot (generationsIn ns) ts i g t)
+    (zip-set applied (zip slot (generationsIn ns) ts) (statesIn ss) i (slot g t) s)
 
--- a row is what the three columns hold at its place
-pub row-at : (gs ts ss : List ℕ) (i : ℕ) → i < length (rows gs ts ss)
-    → getD (rows gs ts ss) i vacant ≡ record { generation = getD gs i 0; time = getD ts i 0; state = getD ss i 0 }
-unfolding rows
-row-at [] ts ss i h = absurd (omega arith)
-row-at (x ∷ gs) [] ss i h = absurd (omega arith)
-row-at (x ∷ gs) (y ∷ ts) [] i h = absurd (omega arith)
-row-at (x ∷ gs) (y ∷ ts) (z ∷ ss) zero h = refl
-row-at (x ∷ gs) (y ∷ ts) (z ∷ ss) (suc i) h = row-at gs ts ss i (omega arith)
+-- and another order of the available ones leaves them as they are
+slots-same : (ns ts ss ss' : List ℕ) → statesIn ss' ≡ statesIn ss → slotsOf ns ts ss' ≡ slotsOf ns ts ss
+unfolding slotsOf
+slots-same ns ts ss ss' e = ap (zip applied (zip slot (generationsIn ns) ts)) e
 
--- all three columns are as long as the rows
-pub rows-columns : (gs ts ss : List ℕ) → (length (rows gs ts ss) ≤ length gs) × (length (rows gs ts ss) ≤ length ts) × (length (rows gs ts ss) ≤ length ss)
-unfolding rows
-rows-columns [] ts ss = (omega arith, omega arith, omega arith)
-rows-columns (x ∷ gs) [] ss = (omega arith, omega arith, omega arith)
-rows-columns (x ∷ gs) (y ∷ ts) [] = (omega arith, omega arith, omega arith)
-rows-columns (x ∷ gs) (y ∷ ts) (z ∷ ss) = let r = rows-columns gs ts ss in (omega (arith, r .0), omega (arith, r .1), omega (arith, r .2))
+-- a slot is what the columns hold at its place
+module _ (ns ts ss : List ℕ) (w : length (slotsOf ns ts ss) ≡ slotCount) where
+  pub slots-at : (i : ℕ) → i < slotCount → getD (slotsOf ns ts ss) i vacant ≡ slot (getD ns (offset 1 + i) 0) (getD ts i 0) (getD ss i 0)
+  unfolding slotsOf
+  slots-at i low =
+      let o = zip-fits applied (zip slot (generationsIn ns) ts) (statesIn ss) in
+      let e : offset 0 + i ≡ i = omega arith in
+      zip-at applied (zip slot (generationsIn ns) ts) (statesIn ss) i (slot 0 0) 0 vacant (omega (arith, w))
+      ∙ rw (zip-at slot (generationsIn ns) ts i 0 0 (slot 0 0) (omega (arith, w, o .0)), column-at 1 ns i low, column-at 0 ss i low, e)
 
--- ── The pool ──
+  -- in another state, since the time given
+  pub slots-set-state : (ss' : List ℕ) (i t s : ℕ) → i < slotCount → statesIn ss' ≡ set (statesIn ss) i s
+      → slotsOf ns (set ts i t) ss' ≡ set (slotsOf ns ts ss) i (withState s t (getD (slotsOf ns ts ss) i vacant))
+  unfolding slotsOf
+  slots-set-state ss' i t s low f =
+      let g : getD (slotsOf ns ts ss) i vacant .generation ≡ getD (generationsIn ns) i 0 = ap (λ (x : Slot). x .generation) (slots-at i low) ∙ sym (column-at 1 ns i low) in
+      rw (f, g, zip-set-second slot (generationsIn ns) ts i 0 t)
+      (zip-set applied (zip slot (generationsIn ns) ts) (statesIn ss) i (slot (getD (generationsIn ns) i 0) t) s)
 
-module _ (h : Head) (cs ts ss ws : List ℕ) where
+-- ── The pool ───────────────────────────────────────────────────────────────────────────────────────────────────────────
+
+module _ (h : Head) (ns ts ss ws : List ℕ) where
+  abbrev pool : SlotPool
+  pool = poolOf h ns ts ss ws
+
   -- slot i gets an id, a generation, a time and a state
   pub put-pool : (i x g t s : ℕ) → i < slotCount
-      → poolOf h (set (set cs i x) (slotCount + i) g) (set ts i t) (set ss i s) ws
-      ≡ withTable (poolOf h cs ts ss ws) (set (take slotCount cs) i x) (set (rows (drop slotCount cs) ts (take slotCount ss)) i (record { generation = g; time = t; state = s }))
+      → poolOf h (set (set ns i x) (slotCount + i) g) (set ts i t) (set ss i s) ws ≡ withTable pool (set (pool .ids) i x) (set (pool .slots) i (slot g t s))
   put-pool i x g t s low =
-      rw (front-put slotCount cs i x g, back-put slotCount cs i x g low, front-set slotCount ss i s, back-kept slotCount ss i s low, rows-set (drop slotCount cs) ts (take slotCount ss) i g t s)
+      let ids : idsIn (set (set ns i x) (slotCount + i) g) ≡ set (idsIn ns) i x = column-behind 0 (set ns i x) (slotCount + i) g (omega arith) ∙ column-set 0 ns i i x (omega arith) low in
+      let gens : generationsIn (set (set ns i x) (slotCount + i) g) ≡ set (generationsIn ns) i g = column-set 1 (set ns i x) i (slotCount + i) g (omega arith) low ∙ ap (λ (l : List ℕ). set l i g) (column-before 1 ns i x (omega arith)) in
+      rw (ids, slots-put ns (set (set ns i x) (slotCount + i) g) ts ss (set ss i s) i g t s gens (column-set 0 ss i i s (omega arith) low), column-before 1 ss i s (omega arith))
 
   -- slot i gets a time and a state
-  pub state-pool : (i t s : ℕ) → i < slotCount
-      → poolOf h cs (set ts i t) (set ss i s) ws
-      ≡ withTable (poolOf h cs ts ss ws) (take slotCount cs) (set (rows (drop slotCount cs) ts (take slotCount ss)) i (withState s t (getD (rows (drop slotCount cs) ts (take slotCount ss)) i vacant)))
-  state-pool i t s low = rw (front-set slotCount ss i s, back-kept slotCount ss i s low, rows-set-state (drop slotCount cs) ts (take slotCount ss) i t s)
-
-  -- place k of the available list gets a slot
-  pub list-pool : (k v : ℕ) → poolOf h cs ts (set ss (slotCount + k) v) ws ≡ withAvailable (poolOf h cs ts ss ws) (set (drop slotCount ss) k v) (h .«available_count»)
-  list-pool k v = rw (front-kept slotCount ss (slotCount + k) v (omega arith), back-set slotCount ss k v)
+  pub state-pool : length (slotsOf ns ts ss) ≡ slotCount → (i t s : ℕ) → i < slotCount
+      → poolOf h ns (set ts i t) (set ss i s) ws ≡ withTable pool (pool .ids) (set (pool .slots) i (withState s t (slotAt pool i)))
+  state-pool w i t s low = rw (slots-set-state ns ts ss w (set ss i s) i t s low (column-set 0 ss i i s (omega arith) low), column-before 1 ss i s (omega arith))
 
   -- the states stay, and the available list is another
-  pub order-pool : (ss' a : List ℕ) → take slotCount ss' ≡ take slotCount ss → drop slotCount ss' ≡ a → poolOf h cs ts ss' ws ≡ withAvailable (poolOf h cs ts ss ws) a (h .«available_count»)
-  order-pool ss' a e f = rw (e, f)
+  pub order-pool : (ss' a : List ℕ) → statesIn ss' ≡ statesIn ss → orderIn ss' ≡ a → poolOf h ns ts ss' ws ≡ withAvailable pool a (h .«available_count»)
+  order-pool ss' a e f = rw (slots-same ns ts ss ss' e, f)
 
-  pub id-at : (i : ℕ) → i < slotCount → idAt (poolOf h cs ts ss ws) i ≡ getD cs i 0
-  id-at i low = getD-take slotCount cs i 0 low
-
-  pub available-at : (k : ℕ) → getD (poolOf h cs ts ss ws .available) k 0 ≡ getD ss (slotCount + k) 0
-  available-at k = getD-drop slotCount ss k 0
-
-  pub slot-at : Whole (poolOf h cs ts ss ws) → (i : ℕ) → i < slotCount
-      → slotAt (poolOf h cs ts ss ws) i ≡ record { generation = getD cs (slotCount + i) 0; time = getD ts i 0; state = getD ss i 0 }
-  slot-at w i low =
-      row-at (drop slotCount cs) ts (take slotCount ss) i (omega (arith, w .slots)) ∙ rw (getD-drop slotCount cs i 0, getD-take slotCount ss i 0 low)
-
-  pub generation-at : Whole (poolOf h cs ts ss ws) → (i : ℕ) → i < slotCount → slotAt (poolOf h cs ts ss ws) i .generation ≡ getD cs (slotCount + i) 0
-  generation-at w i low = ap (λ (s : Slot). s .generation) (slot-at w i low)
-
-  pub numbers-long : Whole (poolOf h cs ts ss ws) → (slotCount ≤ length (drop slotCount cs)) × (slotCount ≤ length ts) × (slotCount ≤ length (take slotCount ss))
-  numbers-long w = let r = rows-columns (drop slotCount cs) ts (take slotCount ss) in (omega (arith, w .slots, r .0), omega (arith, w .slots, r .1), omega (arith, w .slots, r .2))
-
-  pub states-long : Whole (poolOf h cs ts ss ws) → length ss ≡ 2 * slotCount
-  states-long w = let e : length (drop slotCount ss) ≡ length ss - slotCount = length-drop slotCount ss in omega (arith, w .available, e)
+  -- place k of the available list gets a slot
+  pub list-pool : (k v : ℕ) → k < slotCount → poolOf h ns ts (set ss (slotCount + k) v) ws ≡ withAvailable pool (set (pool .available) k v) (h .«available_count»)
+  list-pool k v low = order-pool (set ss (slotCount + k) v) _ (column-behind 0 ss (slotCount + k) v (omega arith)) (column-set 1 ss k (slotCount + k) v (omega arith) low)
 
   -- slot i goes to place k of the available list
-  pub shelved-pool : (k i t : ℕ) → i < slotCount
-      → poolOf h cs (set ts i t) (set (set ss (slotCount + k) i) i 1) ws
-      ≡ withAvailable (withTable (poolOf h cs ts ss ws) (take slotCount cs) (set (rows (drop slotCount cs) ts (take slotCount ss)) i (withState 1 t (getD (rows (drop slotCount cs) ts (take slotCount ss)) i vacant)))) (set (drop slotCount ss) k i) (h .«available_count»)
-  shelved-pool k i t low =
-      rw (front-set slotCount (set ss (slotCount + k) i) i 1, front-kept slotCount ss (slotCount + k) i (omega arith), back-kept slotCount (set ss (slotCount + k) i) i 1 low, back-set slotCount ss k i, rows-set-state (drop slotCount cs) ts (take slotCount ss) i t 1)
+  pub shelved-pool : length (slotsOf ns ts ss) ≡ slotCount → (k i t : ℕ) → k < slotCount → i < slotCount
+      → poolOf h ns (set ts i t) (set (set ss (slotCount + k) i) i 1) ws
+      ≡ withAvailable (withTable pool (pool .ids) (set (pool .slots) i (withState 1 t (slotAt pool i)))) (set (pool .available) k i) (h .«available_count»)
+  shelved-pool w k i t spot low =
+      let states : statesIn (set (set ss (slotCount + k) i) i 1) ≡ set (statesIn ss) i 1 = column-set 0 (set ss (slotCount + k) i) i i 1 (omega arith) low ∙ ap (λ (l : List ℕ). set l i 1) (column-behind 0 ss (slotCount + k) i (omega arith)) in
+      let order : orderIn (set (set ss (slotCount + k) i) i 1) ≡ set (orderIn ss) k i = column-before 1 (set ss (slotCount + k) i) i 1 (omega arith) ∙ column-set 1 ss k (slotCount + k) i (omega arith) spot in
+      rw (slots-set-state ns ts ss w (set (set ss (slotCount + k) i) i 1) i t 1 low states, order)
 
   -- a new connection in the slot that was found
-  pub created-pool : (i x g t s : ℕ) → i ≡ place 0 slotCount (take slotCount cs) → i < slotCount
-      → poolOf h (set (set cs i x) (slotCount + i) g) (set ts i t) (set ss i s) ws
-      ≡ withTable (poolOf h cs ts ss ws) (set (take slotCount cs) (place 0 slotCount (take slotCount cs)) x) (set (rows (drop slotCount cs) ts (take slotCount ss)) (place 0 slotCount (take slotCount cs)) (record { generation = g; time = t; state = s }))
+  pub created-pool : (i x g t s : ℕ) → i ≡ vacantSlot (pool .ids) → i < slotCount
+      → poolOf h (set (set ns i x) (slotCount + i) g) (set ts i t) (set ss i s) ws
+      ≡ withTable pool (set (pool .ids) (vacantSlot (pool .ids)) x) (set (pool .slots) (vacantSlot (pool .ids)) (slot g t s))
   created-pool i x g t s e low = rw (← e) (put-pool i x g t s low)
+
+  -- ── What is read ───────────────────────────────────────────────────────────────────────────────────────────────────────
+
+  pub id-at : (i : ℕ) → i < slotCount → idAt pool i ≡ getD ns i 0
+  id-at i low = let e : offset 0 + i ≡ i = omega arith in column-at 0 ns i low ∙ ap (λ (x : ℕ). getD ns x 0) e
+
+  pub available-at : (k : ℕ) → k < slotCount → getD (pool .available) k 0 ≡ getD ss (slotCount + k) 0
+  available-at k low = column-at 1 ss k low
+
+  pub slot-at : Whole pool → (i : ℕ) → i < slotCount → slotAt pool i ≡ slot (getD ns (slotCount + i) 0) (getD ts i 0) (getD ss i 0)
+  slot-at w i low = slots-at ns ts ss (w .slots) i low
+
+  pub generation-at : Whole pool → (i : ℕ) → i < slotCount → slotAt pool i .generation ≡ getD ns (slotCount + i) 0
+  generation-at w i low = ap (λ (s : Slot). s .generation) (slot-at w i low)
+
+  pub states-long : Whole pool → slotCount + slotCount ≤ length ss
+  states-long w = long-column 1 ss (w .available)
+
+-- ── A pool whose columns are blank ─────────────────────────────────────────────────────────────────────────────────────
+
+pub slots-blank : (n m : ℕ) → slotCount + slotCount ≤ n → slotCount ≤ m → slotsOf (replicate n 0) (replicate slotCount 0) (replicate m 0) ≡ replicate slotCount vacant
+unfolding slotsOf
+slots-blank n m h g =
+    rw (column-blank 1 n h, column-blank 0 m (omega arith), zip-replicate slot slotCount 0 0)
+    (zip-replicate applied slotCount (slot 0 0) 0)

@@ -17,8 +17,8 @@ use Rattle.definition.specs.declared.PoolState.{PoolState}
 use Rattle.definition.specs.declared.PoolState.the-variants.{New, Paused, Ready, Closed}
 use Rattle.definition.specs.declared.ClosedReason.{ClosedReason}
 use Rattle.definition.specs.declared.ClosedReason.the-variants.{Idle, Stale, Error, Dropped, PoolClosed}
-use Rattle.slots.specs.Order.{place, placeOf, shifted}
-use Rattle.slots.specs.View.{SlotPool, Slot, waiterOf}
+use Rattle.slots.specs.Order.{vacantSlot, shifted}
+use Rattle.slots.specs.View.{SlotPool, slot, vacant, withState, withTable, withCounts, withNextId, withAvailable, withWaiters, withStatus, withLastRequest, idAt, slotAt, staleAt, perishedAt, waiterOf}
 
 -- the numbers of the states
 abbrev pub vacantNo : ℕ
@@ -42,59 +42,11 @@ requestNo = 5
 abbrev pub backgroundNo : ℕ
 backgroundNo = 6
 
-abbrev pub vacant : Slot
-vacant = record { generation = 0; time = 0; state = 0 }
-
-abbrev pub withState : ℕ → ℕ → Slot → Slot
-withState k t s = record { generation = s .generation; time = t; state = k }
-
--- the pool with other values in some places
-module _ (p : SlotPool) where
-  abbrev pub withTable : List ℕ → List Slot → SlotPool
-  withTable i s = record { options = p .options; state = p .state; generation = p .generation; nextId = p .nextId; clock = p .clock; lastRequest = p .lastRequest; serial = p .serial; total = p .total; pendings = p .pendings; availables = p .availables; waitings = p .waitings; ids = i; slots = s; available = p .available; waiters = p .waiters }
-
-  abbrev pub withCounts : ℕ → ℕ → SlotPool
-  withCounts t c = record { options = p .options; state = p .state; generation = p .generation; nextId = p .nextId; clock = p .clock; lastRequest = p .lastRequest; serial = p .serial; total = t; pendings = c; availables = p .availables; waitings = p .waitings; ids = p .ids; slots = p .slots; available = p .available; waiters = p .waiters }
-
-  abbrev pub withNextId : ℕ → SlotPool
-  withNextId n = record { options = p .options; state = p .state; generation = p .generation; nextId = n; clock = p .clock; lastRequest = p .lastRequest; serial = p .serial; total = p .total; pendings = p .pendings; availables = p .availables; waitings = p .waitings; ids = p .ids; slots = p .slots; available = p .available; waiters = p .waiters }
-
-  abbrev pub withAvailable : List ℕ → ℕ → SlotPool
-  withAvailable a n = record { options = p .options; state = p .state; generation = p .generation; nextId = p .nextId; clock = p .clock; lastRequest = p .lastRequest; serial = p .serial; total = p .total; pendings = p .pendings; availables = n; waitings = p .waitings; ids = p .ids; slots = p .slots; available = a; waiters = p .waiters }
-
-  abbrev pub withWaiters : List ℕ → ℕ → SlotPool
-  withWaiters w n = record { options = p .options; state = p .state; generation = p .generation; nextId = p .nextId; clock = p .clock; lastRequest = p .lastRequest; serial = p .serial; total = p .total; pendings = p .pendings; availables = p .availables; waitings = n; ids = p .ids; slots = p .slots; available = p .available; waiters = w }
-
-  abbrev pub withStatus : PoolState → ℕ → SlotPool
-  withStatus s g = record { options = p .options; state = s; generation = g; nextId = p .nextId; clock = p .clock; lastRequest = p .lastRequest; serial = p .serial; total = p .total; pendings = p .pendings; availables = p .availables; waitings = p .waitings; ids = p .ids; slots = p .slots; available = p .available; waiters = p .waiters }
-
-  abbrev pub withClock : ℕ → SlotPool
-  withClock t = record { options = p .options; state = p .state; generation = p .generation; nextId = p .nextId; clock = t; lastRequest = p .lastRequest; serial = p .serial; total = p .total; pendings = p .pendings; availables = p .availables; waitings = p .waitings; ids = p .ids; slots = p .slots; available = p .available; waiters = p .waiters }
-
-  abbrev pub withLastRequest : ℕ → SlotPool
-  withLastRequest r = record { options = p .options; state = p .state; generation = p .generation; nextId = p .nextId; clock = p .clock; lastRequest = r; serial = p .serial; total = p .total; pendings = p .pendings; availables = p .availables; waitings = p .waitings; ids = p .ids; slots = p .slots; available = p .available; waiters = p .waiters }
-
-  abbrev pub withSerial : ℕ → SlotPool
-  withSerial s = record { options = p .options; state = p .state; generation = p .generation; nextId = p .nextId; clock = p .clock; lastRequest = p .lastRequest; serial = s; total = p .total; pendings = p .pendings; availables = p .availables; waitings = p .waitings; ids = p .ids; slots = p .slots; available = p .available; waiters = p .waiters }
-
-  -- what slot i holds
-  abbrev pub idAt : ℕ → ℕ
-  idAt i = getD (p .ids) i 0
-
-  abbrev pub slotAt : ℕ → Slot
-  slotAt i = getD (p .slots) i vacant
-
-  abbrev pub staleAt : ℕ → Bool
-  staleAt i = staleIn (p .generation) (slotAt i .generation)
-
-  abbrev pub perishedAt : ℕ → Bool
-  perishedAt i = staleAt i || idleFor (p .options .idle) (slotAt i .time) (p .clock)
-
 -- ── Parts of the steps ─────────────────────────────────────────────────────────────────────────────────────────────────
 
 -- the connection in slot i is closed, and the slot is vacant
-unfoldable pub closeAt : ClosedReason → ℕ → Act SlotPool
-closeAt reason i p = (emit (ConnectionClosed reason (idAt p i)) >> become (withCounts (withTable p (set (p .ids) i 0) (set (p .slots) i vacant)) (p .total - 1) (p .pendings))) p
+unfoldable pub closeAt : ClosedReason → (slot other : ℕ) → Act SlotPool
+closeAt reason i other p = (emit (ConnectionClosed reason (idAt p i) other) >> become (withCounts (withTable p (set (p .ids) i 0) (set (p .slots) i vacant)) (p .total - 1) (p .pendings))) p
 
 unfoldable pub leavePending : Act SlotPool
 leavePending p = become (withCounts p (p .total) (p .pendings - 1)) p
@@ -114,17 +66,17 @@ popFront p = become (withAvailable p (shifted (p .availables) (p .available)) (p
 unfoldable pub popBack : Act SlotPool
 popBack p = become (withAvailable p (set (p .available) (p .availables - 1) 0) (p .availables - 1)) p
 
--- a new connection in the first vacant slot: the next id, the current generation
+-- a new connection in a vacant slot: the next id, the current generation
 unfoldable pub createPendingConnection : ℕ → Act SlotPool
 createPendingConnection state p =
-    let i = place 0 slotCount (p .ids) in
+    let i = vacantSlot (p .ids) in
     (do
       emit (ConnectionCreated (p .nextId))
-      become (withCounts (withNextId (withTable p (set (p .ids) i (p .nextId)) (set (p .slots) i (record { generation = p .generation; time = p .clock; state = state }))) (p .nextId + 1)) (p .total + 1) (p .pendings + 1))
+      become (withCounts (withNextId (withTable p (set (p .ids) i (p .nextId)) (set (p .slots) i (slot (p .generation) (p .clock) state))) (p .nextId + 1)) (p .total + 1) (p .pendings + 1))
     ) p
 
 unfoldable pub closePerishedAt : ℕ → Act SlotPool
-closePerishedAt i p = closeAt (if staleAt p i then Stale else Idle) i p
+closePerishedAt i p = closeAt (if staleAt p i then Stale else Idle) i 0 p
 
 -- the first n cells are 0
 unfoldable pub zeroed : ℕ → List ℕ → List ℕ
@@ -157,11 +109,11 @@ abandonAt k p = become (withWaiters p (set (p .waiters) k (getD (p .waiters) k 0
 
 unfoldable pub checkInAt : ℕ → (errored executing : Bool) → (letGo : ℕ) → Act SlotPool
 checkInAt i errored executing letGo p =
-    (if isClosed (p .state) then closeAt PoolClosed i else do
+    (if isClosed (p .state) then closeAt PoolClosed i 0 else do
       emit (ConnectionCheckedIn (idAt p i))
-      if errored then closeAt Error i else
-          if staleAt p i then closeAt Stale i else
-          if executing then closeAt Dropped i else
+      if errored then closeAt Error i 0 else
+          if staleAt p i then closeAt Stale i 0 else
+          if executing then closeAt Dropped i 0 else
           shelve i letGo
     ) p
 
@@ -190,11 +142,11 @@ succeededForPoolAt i opened p =
     (do
       emit (ConnectionReady (idAt p i))
       leavePending
-      if isClosed (p .state) then closeAt PoolClosed i else shelve i opened
+      if isClosed (p .state) then closeAt PoolClosed i 0 else shelve i opened
     ) p
 
 unfoldable pub failedAt : ℕ → Act SlotPool
-failedAt i = leavePending >> closeAt Error i
+failedAt i = leavePending >> closeAt Error i 0
 
 -- up to k times: the front is closed if it has perished
 unfoldable pub prune : ℕ → Act SlotPool
@@ -221,7 +173,7 @@ maintenance = removePerished >> ensureMinConnections
 -- k times: the front is closed with its pool
 unfoldable pub closeFront : ℕ → Act SlotPool
 closeFront zero p = nothing p
-closeFront (suc k) p = (popFront >> closeAt PoolClosed (getD (p .available) 0 0) >> closeFront k) p
+closeFront (suc k) p = (popFront >> closeAt PoolClosed (getD (p .available) 0 0) 0 >> closeFront k) p
 
 unfoldable pub shut : Act SlotPool
 shut p =

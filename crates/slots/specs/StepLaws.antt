@@ -11,23 +11,23 @@ use Rattle.definition.specs.Steps.{emit, nothing, _>>_}
 use Rattle.definition.specs.Events.{bit}
 use Rattle.definition.specs.declared.PoolState.the-variants.{New, Paused, Ready, Closed}
 use Rattle.definition.specs.declared.ClosedReason.the-variants.{Stale, Error, Dropped, PoolClosed}
-use Rattle.slots.specs.View.{SlotPool}
-use Rattle.slots.specs.Slots.{closeAt, shelve, leavePending, enter, idAt, staleAt, checkInAt, succeededForPoolAt, markAsReady, queue, request, withLastRequest, withWaiters}
+use Rattle.slots.specs.View.{SlotPool, idAt, staleAt, withLastRequest, withWaiters}
+use Rattle.slots.specs.Slots.{closeAt, shelve, leavePending, enter, checkInAt, succeededForPoolAt, markAsReady, queue, request}
 
 module _ (p : SlotPool) (i : ℕ) (errored executing : Bool) (t : ℕ) where
-  pub checkIn-closed : isClosed (p .state) ≡ true → checkInAt i errored executing t p ≡ closeAt PoolClosed i p
+  pub checkIn-closed : isClosed (p .state) ≡ true → checkInAt i errored executing t p ≡ closeAt PoolClosed i 0 p
   unfolding checkInAt if_then_else_
   checkIn-closed h = rw h
 
-  pub checkIn-errored : isClosed (p .state) ≡ false → errored ≡ true → checkInAt i errored executing t p ≡ (emit (ConnectionCheckedIn (idAt p i)) >> closeAt Error i) p
+  pub checkIn-errored : isClosed (p .state) ≡ false → errored ≡ true → checkInAt i errored executing t p ≡ (emit (ConnectionCheckedIn (idAt p i)) >> closeAt Error i 0) p
   unfolding checkInAt if_then_else_
   checkIn-errored h e = rw (h, e)
 
-  pub checkIn-stale : isClosed (p .state) ≡ false → errored ≡ false → staleAt p i ≡ true → checkInAt i errored executing t p ≡ (emit (ConnectionCheckedIn (idAt p i)) >> closeAt Stale i) p
+  pub checkIn-stale : isClosed (p .state) ≡ false → errored ≡ false → staleAt p i ≡ true → checkInAt i errored executing t p ≡ (emit (ConnectionCheckedIn (idAt p i)) >> closeAt Stale i 0) p
   unfolding checkInAt if_then_else_
   checkIn-stale h e s = rw (h, e, s)
 
-  pub checkIn-executing : isClosed (p .state) ≡ false → errored ≡ false → staleAt p i ≡ false → executing ≡ true → checkInAt i errored executing t p ≡ (emit (ConnectionCheckedIn (idAt p i)) >> closeAt Dropped i) p
+  pub checkIn-executing : isClosed (p .state) ≡ false → errored ≡ false → staleAt p i ≡ false → executing ≡ true → checkInAt i errored executing t p ≡ (emit (ConnectionCheckedIn (idAt p i)) >> closeAt Dropped i 0) p
   unfolding checkInAt if_then_else_
   checkIn-executing h e s x = rw (h, e, s, x)
 
@@ -36,7 +36,7 @@ module _ (p : SlotPool) (i : ℕ) (errored executing : Bool) (t : ℕ) where
   checkIn-kept h e s x = rw (h, e, s, x)
 
 module _ (p : SlotPool) (i opened : ℕ) where
-  pub opened-closed : isClosed (p .state) ≡ true → succeededForPoolAt i opened p ≡ (emit (ConnectionReady (idAt p i)) >> leavePending >> closeAt PoolClosed i) p
+  pub opened-closed : isClosed (p .state) ≡ true → succeededForPoolAt i opened p ≡ (emit (ConnectionReady (idAt p i)) >> leavePending >> closeAt PoolClosed i 0) p
   unfolding succeededForPoolAt if_then_else_
   opened-closed h = rw h
 

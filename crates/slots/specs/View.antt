@@ -1,22 +1,57 @@
--- The pool that the lent parts make: what the slot-level steps speak of. Only this file and its laws know the columns.
+-- The pool that the lent parts make: what the slot-level steps speak of. Only this file and its laws, Parts, know the columns: a new
+-- field of a slot or of the pool is written here.
 use mathlib.Core.Path.{_≡_}
-use mathlib.Core.Bool.{Bool}
+use mathlib.Core.Bool.{Bool, _||_}
 use mathlib.Core.List.{List, [], _∷_, map}
 use Prim.Native.Nat.{ℕ, _+_, _/_, _%_, _≤_, _<_}
-use lib.ListN.{length, getD, set, take, drop}
+use lib.ListN.{length, getD}
 use denote.Ref.{RefT, now}
 use denote.Triple.Both.{Both}
 use Rattle.definition.specs.Words.{_≤?_, _=?_}
-use Rattle.definition.specs.Pool.{queueLength, slotCount, Waiter}
+use Rattle.definition.specs.Pool.{queueLength, slotCount, Waiter, staleIn, idleFor}
 use Rattle.definition.specs.declared.Options.{Options}
 use Rattle.definition.specs.declared.PoolState.{PoolState}
+use Rattle.slots.specs.Columns.{column, zip}
 use Rattle.slots.specs.declared.Head.{Head}
+
+-- ── What a slot holds ──────────────────────────────────────────────────────────────────────────────────────────────────
 
 -- what is known of the connection in a slot; `state` is the number of its state, 0 where there is none
 pub record Slot : Type 0 where
   pub generation : ℕ
   pub time : ℕ
   pub state : ℕ
+
+abbrev pub slot : (generation time state : ℕ) → Slot
+slot g t s = record { generation = g; time = t; state = s }
+
+abbrev pub vacant : Slot
+vacant = slot 0 0 0
+
+-- in another state, since the time given
+abbrev pub withState : (state time : ℕ) → Slot → Slot
+withState k t s = slot (s .generation) t k
+
+-- ── The columns ────────────────────────────────────────────────────────────────────────────────────────────────────────
+
+-- `numbers` has the ids, then the generations; `times` is one column; `states` has the states, then the available slots, front to back
+abbrev pub idsIn : (numbers : List ℕ) → List ℕ
+idsIn numbers = column 0 numbers
+
+abbrev pub generationsIn : (numbers : List ℕ) → List ℕ
+generationsIn numbers = column 1 numbers
+
+abbrev pub statesIn : (states : List ℕ) → List ℕ
+statesIn states = column 0 states
+
+abbrev pub orderIn : (states : List ℕ) → List ℕ
+orderIn states = column 1 states
+
+-- what the columns say of each slot
+unfoldable pub slotsOf : (numbers times states : List ℕ) → List Slot
+slotsOf numbers times states = zip (λ (f : ℕ → Slot) (s : ℕ). f s) (zip slot (generationsIn numbers) times) (statesIn states)
+
+-- ── The pool ───────────────────────────────────────────────────────────────────────────────────────────────────────────
 
 pub record SlotPool : Type 0 where
   pub options : Options
@@ -35,15 +70,8 @@ pub record SlotPool : Type 0 where
   pub available : List ℕ
   pub waiters : List ℕ
 
--- a generation, a time and a state side by side
-unfoldable pub rows : List ℕ → List ℕ → List ℕ → List Slot
-rows [] ts ss = []
-rows (g ∷ gs) [] ss = []
-rows (g ∷ gs) (t ∷ ts) [] = []
-rows (g ∷ gs) (t ∷ ts) (s ∷ ss) = record { generation = g; time = t; state = s } ∷ rows gs ts ss
-
--- cells: ids, then generations; times; seats: states, then the available slots; waiters: four times the id, and 1 if warm, 2 if abandoned
-abbrev pub poolOf : Head → List ℕ → List ℕ → List ℕ → List ℕ → SlotPool
+-- waiters: four times the id, and 1 if warm, 2 if abandoned
+abbrev pub poolOf : Head → (numbers times states waiters : List ℕ) → SlotPool
 poolOf h numbers times states waiters = record {
   options = h .options;
   state = h .status .state;
@@ -56,11 +84,53 @@ poolOf h numbers times states waiters = record {
   pendings = h .«pending_connection_count»;
   availables = h .«available_count»;
   waitings = h .«waiting_count»;
-  ids = take slotCount numbers;
-  slots = rows (drop slotCount numbers) times (take slotCount states);
-  available = drop slotCount states;
+  ids = idsIn numbers;
+  slots = slotsOf numbers times states;
+  available = orderIn states;
   waiters = waiters;
 }
+
+-- the pool with other values in some places
+module _ (p : SlotPool) where
+  abbrev pub withTable : List ℕ → List Slot → SlotPool
+  withTable i s = record { options = p .options; state = p .state; generation = p .generation; nextId = p .nextId; clock = p .clock; lastRequest = p .lastRequest; serial = p .serial; total = p .total; pendings = p .pendings; availables = p .availables; waitings = p .waitings; ids = i; slots = s; available = p .available; waiters = p .waiters }
+
+  abbrev pub withCounts : ℕ → ℕ → SlotPool
+  withCounts t c = record { options = p .options; state = p .state; generation = p .generation; nextId = p .nextId; clock = p .clock; lastRequest = p .lastRequest; serial = p .serial; total = t; pendings = c; availables = p .availables; waitings = p .waitings; ids = p .ids; slots = p .slots; available = p .available; waiters = p .waiters }
+
+  abbrev pub withNextId : ℕ → SlotPool
+  withNextId n = record { options = p .options; state = p .state; generation = p .generation; nextId = n; clock = p .clock; lastRequest = p .lastRequest; serial = p .serial; total = p .total; pendings = p .pendings; availables = p .availables; waitings = p .waitings; ids = p .ids; slots = p .slots; available = p .available; waiters = p .waiters }
+
+  abbrev pub withAvailable : List ℕ → ℕ → SlotPool
+  withAvailable a n = record { options = p .options; state = p .state; generation = p .generation; nextId = p .nextId; clock = p .clock; lastRequest = p .lastRequest; serial = p .serial; total = p .total; pendings = p .pendings; availables = n; waitings = p .waitings; ids = p .ids; slots = p .slots; available = a; waiters = p .waiters }
+
+  abbrev pub withWaiters : List ℕ → ℕ → SlotPool
+  withWaiters w n = record { options = p .options; state = p .state; generation = p .generation; nextId = p .nextId; clock = p .clock; lastRequest = p .lastRequest; serial = p .serial; total = p .total; pendings = p .pendings; availables = p .availables; waitings = n; ids = p .ids; slots = p .slots; available = p .available; waiters = w }
+
+  abbrev pub withStatus : PoolState → ℕ → SlotPool
+  withStatus s g = record { options = p .options; state = s; generation = g; nextId = p .nextId; clock = p .clock; lastRequest = p .lastRequest; serial = p .serial; total = p .total; pendings = p .pendings; availables = p .availables; waitings = p .waitings; ids = p .ids; slots = p .slots; available = p .available; waiters = p .waiters }
+
+  abbrev pub withClock : ℕ → SlotPool
+  withClock t = record { options = p .options; state = p .state; generation = p .generation; nextId = p .nextId; clock = t; lastRequest = p .lastRequest; serial = p .serial; total = p .total; pendings = p .pendings; availables = p .availables; waitings = p .waitings; ids = p .ids; slots = p .slots; available = p .available; waiters = p .waiters }
+
+  abbrev pub withLastRequest : ℕ → SlotPool
+  withLastRequest r = record { options = p .options; state = p .state; generation = p .generation; nextId = p .nextId; clock = p .clock; lastRequest = r; serial = p .serial; total = p .total; pendings = p .pendings; availables = p .availables; waitings = p .waitings; ids = p .ids; slots = p .slots; available = p .available; waiters = p .waiters }
+
+  abbrev pub withSerial : ℕ → SlotPool
+  withSerial s = record { options = p .options; state = p .state; generation = p .generation; nextId = p .nextId; clock = p .clock; lastRequest = p .lastRequest; serial = s; total = p .total; pendings = p .pendings; availables = p .availables; waitings = p .waitings; ids = p .ids; slots = p .slots; available = p .available; waiters = p .waiters }
+
+  -- what slot i holds
+  abbrev pub idAt : ℕ → ℕ
+  idAt i = getD (p .ids) i 0
+
+  abbrev pub slotAt : ℕ → Slot
+  slotAt i = getD (p .slots) i vacant
+
+  abbrev pub staleAt : ℕ → Bool
+  staleAt i = staleIn (p .generation) (slotAt i .generation)
+
+  abbrev pub perishedAt : ℕ → Bool
+  perishedAt i = staleAt i || idleFor (p .options .idle) (slotAt i .time) (p .clock)
 
 abbrev pub waiterOf : ℕ → Waiter
 waiterOf w = record { id = w / 4; warm = w % 2 =? 1; abandoned = 2 ≤? w % 4 }

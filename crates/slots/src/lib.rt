@@ -12,13 +12,19 @@ pub struct Status {
 
 // ── The columns ──
 
+// Columns of one width stand in one array, SLOTS cells each: where they begin has a name, save that the first begins at 0.
+
 // The slots' ids, then their generations.
+pub const GENERATIONS: usize = SLOTS;
+
 pub type Numbers = [u32; 2 * SLOTS];
 
 // When each slot's connection became available, or was last named.
 pub type Times = [u64; SLOTS];
 
 // The slots' states, then the available slots, front to back.
+pub const ORDER: usize = SLOTS;
+
 pub type States = [u8; 2 * SLOTS];
 
 // Front to back: four times the request's id, and 1 if it warms the pool, 2 if it was abandoned.

@@ -17,12 +17,12 @@ use Rattle.definition.specs.declared.Options.{Options}
 use Rattle.definition.specs.declared.ClosedReason.{ClosedReason}
 use Rattle.definition.specs.declared.ClosedReason.the-variants.{PoolClosed}
 use Rattle.slots.specs.Laid.{laid}
-use Rattle.slots.specs.View.{SlotPool, Whole, waiterOf}
+use Rattle.slots.specs.View.{SlotPool, Whole, waiterOf, withWaiters}
 use Rattle.slots.specs.Done.{lay, Room, Done, Underway}
 use Rattle.slots.specs.DoneLaws.{done-quiet, done-serial, underway-step, underway-done, underway-start}
 use Rattle.slots.specs.Codes.{reasonOf}
 use Rattle.slots.specs.Needs.{taken, CanCreate, CanClose, CanPrune, CanFill}
-use Rattle.slots.specs.Slots.{closeAt, closePerishedAt, popFront, createPendingConnection, backgroundNo, prune, closeFront, fillUp, ensureMinConnections, zeroed, tellAll, withWaiters}
+use Rattle.slots.specs.Slots.{closeAt, closePerishedAt, popFront, createPendingConnection, backgroundNo, prune, closeFront, fillUp, ensureMinConnections, zeroed, tellAll}
 use Rattle.slots.specs.ActLaws.{taken-set, vacant-place, zeroed-at, zeroed-more, perishedNoAt, is-healthy, is-perished, perished-reason, popped-whole, popped-prune, closed-whole, closed-prune, created-whole}
 
 -- ── From the available front ──

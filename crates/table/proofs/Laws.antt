@@ -1,11 +1,13 @@
 -- Laws that the proofs cite: of the searching loop, of the shifting loop, and of a lent tail.
-use mathlib.Core.Path.{_≡_, refl, sym, _∙_}
+use mathlib.Core.Path.{_≡_, refl, sym, ap, _∙_}
 use mathlib.Core.List.{List, [], _∷_, _++_, append-nil}
 use Prim.Native.Nat.{ℕ, zero, suc, _+_, _-_, _≤_, _<_}
 use native.Mathlib.Omega.{arith}
 use lib.ListN.{length, take, drop, set, getD, length-drop, drop-of-length-le}
 use lib.Seq.{append-snoc, drop-cons, drop-drop, getD-drop, set-at, take-all, take-suc}
-use Rattle.slots.specs.Columns.{front-kept, back-set}
+use Rattle.definition.specs.Pool.{slotCount}
+use Rattle.slots.specs.Columns.{column-at, column-long, column-set, column-behind}
+use Rattle.slots.specs.View.{statesIn, orderIn}
 use Rattle.slots.specs.Laid.{laid}
 use Rattle.slots.specs.Order.{placeBy, shifted}
 use Rattle.slots.specs.OrderLaws.{Missed, missed-more, place-is, place-none, getD-tail, length-tail}
@@ -58,40 +60,65 @@ moved-end : (n : ℕ) (l : List ℕ) → n < length l → set (moved n l) n 0 �
 unfolding shifted
 moved-end n l h = let e : suc n - 1 ≡ n = omega arith in rw e (moved-set n 0 l h)
 
--- from cell o on: before turn i, of those that move the n cells of a up
-pub record Shifting (o n : ℕ) (a b : List ℕ) (i : ℕ) : Type 0 where
+-- before turn i, of those that move the first n cells of a up
+pub record Shifting (n : ℕ) (a b : List ℕ) (i : ℕ) : Type 0 where
   pub some : 0 < i
   pub low : i ≤ n
-  pub long : o + n ≤ length a
-  pub front : take o b ≡ take o a
-  pub back : drop o b ≡ moved (i - 1) (drop o a)
+  pub long : n ≤ length a
+  pub done : b ≡ moved (i - 1) a
 
-pub shifting-step : (o n : ℕ) (a b : List ℕ) (i j k : ℕ) → suc j ≡ o + i → k ≡ o + i → Shifting o n a b i → i < n → Shifting o n a (set b j (getD b k 0)) (i + 1)
-shifting-step o n a b i j k p q v h =
+pub shifting-start : (n : ℕ) (a : List ℕ) → 0 < n → n ≤ length a → Shifting n a a 1
+shifting-start n a z h = record { some = omega arith; low = z; long = h; done = refl }
+
+pub shifting-step : (n : ℕ) (a b : List ℕ) (i : ℕ) → Shifting n a b i → i < n → Shifting n a (set b (i - 1) (getD b i 0)) (i + 1)
+shifting-step n a b i v h =
     let m : ℕ = i - 1 in
-    let ej : j ≡ o + m = omega arith in
-    let ek : k ≡ o + suc m = omega arith in
-    let ei : i + 1 - 1 ≡ suc m = omega arith in
+    let next : i ≡ suc m = omega (arith, v .some) in
+    let more : suc m ≡ i + 1 - 1 = omega (arith, v .some) in
     record {
       some = omega arith;
       low = omega arith;
       long = v .long;
-      front = front-kept o b j _ (omega arith) ∙ v .front;
-      back =
-          rw (ej, ek, ei)
-          (back-set o b m _
-          ∙ rw (← getD-drop o b (suc m) 0, v .back) (moved-more m (drop o a) (simp length-drop (omega (arith, v .long)))));
+      done =
+          ap (λ (x : ℕ). set b m (getD b x 0)) next
+          ∙ ap (λ (l : List ℕ). set l m (getD l (suc m) 0)) (v .done)
+          ∙ moved-more m a (omega (arith, v .long))
+          ∙ ap (λ (x : ℕ). moved x a) more;
     }
 
-pub shifting-end : (o n : ℕ) (a b : List ℕ) (i j : ℕ) → suc j ≡ o + n → Shifting o n a b i → n ≤ i
-    → (take o (set b j 0) ≡ take o a) × (drop o (set b j 0) ≡ shifted n (drop o a))
-shifting-end o n a b i j p v h =
+pub shifting-end : (n : ℕ) (a b : List ℕ) (i : ℕ) → Shifting n a b i → n ≤ i → set b (n - 1) 0 ≡ shifted n a
+shifting-end n a b i v h =
     let m : ℕ = i - 1 in
-    let ej : j ≡ o + m = omega (arith, v .low, v .some) in
-    let en : n ≡ suc m = omega (arith, v .low, v .some) in (
-      front-kept o b j 0 (omega arith) ∙ v .front,
-      rw (ej, en) (back-set o b m 0 ∙ rw (v .back) (moved-end m (drop o a) (simp length-drop (omega (arith, v .long))))),
-    )
+    let en : n ≡ suc m = omega (arith, v .low, v .some) in
+    let es : n - 1 ≡ m = omega (arith, v .low, v .some) in
+    rw (es, v .done) (moved-end m a (omega (arith, v .long)) ∙ ap (λ (x : ℕ). shifted x a) (sym en))
+
+-- the same of the order list, which stands behind the states
+pub record ShiftingOrder (n : ℕ) (a b : List ℕ) (i : ℕ) : Type 0 where
+  pub states : statesIn b ≡ statesIn a
+  pub order : Shifting n (orderIn a) (orderIn b) i
+
+pub order-start : (n : ℕ) (a : List ℕ) → 0 < n → n ≤ slotCount → slotCount + slotCount ≤ length a → ShiftingOrder n a a 1
+order-start n a z h l = record { states = refl; order = shifting-start n (orderIn a) z (omega (arith, column-long 1 a l)) }
+
+module _ (n : ℕ) (a b : List ℕ) (i : ℕ) (fits : n ≤ slotCount) (v : ShiftingOrder n a b i) where
+  pub order-step : i < n → ShiftingOrder n a (set b (slotCount - 1 + i) (getD b (slotCount + i) 0)) (i + 1)
+  order-step h =
+      let some = v .order .some in
+      let x = getD b (slotCount + i) 0 in
+      let cell : getD (orderIn b) i 0 ≡ x = column-at 1 b i (omega arith) in
+      record {
+        states = column-behind 0 b (slotCount - 1 + i) x (omega arith) ∙ v .states;
+        order = rw (column-set 1 b (i - 1) (slotCount - 1 + i) x (omega arith) (omega arith), ← cell) (shifting-step n (orderIn a) (orderIn b) i (v .order) h);
+      }
+
+  pub order-end : n ≤ i → (statesIn (set b (slotCount - 1 + n) 0) ≡ statesIn a) × (orderIn (set b (slotCount - 1 + n) 0) ≡ shifted n (orderIn a))
+  order-end h =
+      let some = v .order .some in
+      let low = v .order .low in (
+        column-behind 0 b (slotCount - 1 + n) 0 (omega arith) ∙ v .states,
+        column-set 1 b (n - 1) (slotCount - 1 + n) 0 (omega arith) (omega arith) ∙ shifting-end n (orderIn a) (orderIn b) i (v .order) h,
+      )
 
 -- ── Bytes laid down ────────────────────────────────────────────────────────────────────────────────────────────────────
 

@@ -2,24 +2,40 @@
 ghost use mathlib.Core.Path.{_≡_};
 ghost use mathlib.Core.List.{_++_};
 ghost use Prim.Native.Nat.{_+_, _*_, _≤_, _<_};
-ghost use lib.ListN.{length, take, drop};
+ghost use lib.ListN.{length, drop};
 ghost use Rattle.definition.specs.Pool.{slotCount, queueLength};
 ghost use Rattle.definition.specs.Records.{fields};
 ghost use Rattle.definition.specs.Bytes.{serialOf, recordBytes};
-ghost use Rattle.slots.specs.Order.{place, placeOf, shifted};
+ghost use Rattle.slots.specs.Order.{placeOf, slotHolding, vacantSlot, shifted};
+ghost use Rattle.slots.specs.View.{idsIn, statesIn, orderIn};
 ghost use Rattle.slots.specs.Laid.{laid};
 use slots::Numbers;
+use slots::ORDER;
 use definition::SLOTS;
 use slots::States;
 use slots::Waiters;
 
-// The slot whose id is the number, or the count of slots.
+// The slot that holds the id, or the count of slots.
 pub fn find(numbers: &Numbers, id: u32) -> usize
-    ensures { λ r. ⌜ r ≡ place id slotCount (now (numbers .entry)) ⌝ }
+    ensures { λ r. ⌜ r ≡ slotHolding id (idsIn (now (numbers .entry))) ⌝ }
 {
     let mut i: usize = 0;
     while i < SLOTS {
         if numbers[i] == id {
+            return i;
+        }
+        i += 1;
+    }
+    SLOTS
+}
+
+// A slot that is free, or the count of slots.
+pub fn find_vacant(numbers: &Numbers) -> usize
+    ensures { λ r. ⌜ r ≡ vacantSlot (idsIn (now (numbers .entry))) ⌝ }
+{
+    let mut i: usize = 0;
+    while i < SLOTS {
+        if numbers[i] == 0 {
             return i;
         }
         i += 1;
@@ -43,20 +59,20 @@ pub fn find_waiter(waiters: &Waiters, n: usize, id: u32) -> usize
     n
 }
 
-// The last of the states, before the order list.
-const LAST: usize = SLOTS - 1;
+// The cell before the order list.
+const BEFORE_ORDER: usize = ORDER - 1;
 
 // Of the order list: the front leaves, the others of the n move up, and a 0 stands last of the n.
 pub fn shift_order(states: &mut States, n: usize)
-    requires { ⌜ (0 < n) × (n ≤ slotCount) × (length (now states) ≡ 2 * slotCount) ⌝ }
-    ensures { λ _. ⌜ (take slotCount (now (states .exit)) ≡ take slotCount (now (states .entry))) × (drop slotCount (now (states .exit)) ≡ shifted n (drop slotCount (now (states .entry)))) ⌝ }
+    requires { ⌜ (0 < n) × (n ≤ slotCount) × (slotCount + slotCount ≤ length (now states)) ⌝ }
+    ensures { λ _. ⌜ (statesIn (now (states .exit)) ≡ statesIn (now (states .entry))) × (orderIn (now (states .exit)) ≡ shifted n (orderIn (now (states .entry)))) ⌝ }
 {
     let mut i: usize = 1;
     while i < n {
-        states[LAST + i] = states[SLOTS + i];
+        states[BEFORE_ORDER + i] = states[ORDER + i];
         i += 1;
     }
-    states[LAST + n] = 0;
+    states[BEFORE_ORDER + n] = 0;
 }
 
 // The front waiter leaves, the others of the n move up, and a 0 stands last of the n.

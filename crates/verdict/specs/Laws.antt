@@ -14,8 +14,7 @@ use Rattle.definition.specs.declared.Event.{Event}
 use Rattle.definition.specs.declared.Event.the-variants.{CheckOut, WarmPool, Abandon, CheckIn, Clear, MarkAsReady, Succeeded, SucceededForPool, Failed, Maintenance, FillPool, Pin, ReturnToPinner, TakeFromPinner, Close}
 use Rattle.definition.specs.declared.Refusal.{Refusal}
 use Rattle.definition.specs.declared.Refusal.the-variants.{ClockBack, AfterClose, NumbersSpent}
-use Rattle.slots.specs.View.{SlotPool}
-use Rattle.slots.specs.Slots.{slotAt}
+use Rattle.slots.specs.View.{SlotPool, slotAt}
 use Rattle.slots.specs.Call.{slotOf, stateOf, timeOf, kindTests, orAccept, target, tests, verdict}
 use Rattle.slots.specs.declared.Status.{Status}
 use Rattle.slots.specs.declared.Verdict.{Verdict}

@@ -14,8 +14,7 @@ use Rattle.definition.specs.declared.PoolState.{PoolState}
 use Rattle.definition.specs.declared.Refusal.{Refusal}
 use Rattle.definition.specs.declared.Refusal.the-variants.{ClockBack, AfterClose, NumbersSpent, OldRequest, QueueFull, WrongState, WrongTime, NotWaiting, AlreadyPinned}
 use Rattle.slots.specs.Order.{place, placeOf}
-use Rattle.slots.specs.View.{rows}
-use Rattle.slots.specs.Slots.{vacant}
+use Rattle.slots.specs.View.{rows, vacant}
 use Rattle.slots.specs.declared.Status.{Status}
 use Rattle.verdict.specs.declared.Found.{Found}
 use Rattle.verdict.specs.declared.Common.{Common}

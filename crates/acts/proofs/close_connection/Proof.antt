@@ -1,10 +1,6 @@
-use mathlib.Core.Path.{_≡_, refl, sym, ap, _∙_}
+use mathlib.Core.Path.{refl}
 use denote.Ref.{now}
-use Rattle.definition.specs.Steps.{_>>_}
-use Rattle.slots.specs.Done.{lay}
-use Rattle.slots.specs.Slots.{closeAt}
-use Rattle.slots.specs.Parts.{put-pool, id-at}
-use Rattle.slots.specs.CodeLaws.{reason-number}
+use Rattle.slots.specs.ActExits.{closed-done}
 use borrow.Author.Needs.{needs}
 use Rattle.acts.proofs.close_connection.Statement.{statement}
 use Rattle.acts.proofs.close_connection.Tie as tie
@@ -52,23 +48,19 @@ element-write-states c = search needs
 sub-h : tie.Need-sub-h
 sub-h c = search needs
 
-add-t18 : tie.Need-add-t18
-add-t18 c = search needs
+add-t19 : tie.Need-add-t19
+add-t19 c = search needs
 
 same-length : tie.Need-same-length
 same-length c = search needs
 
 returns : tie.Need-returns
-unfolding closeAt lay _>>_
 returns c =
-    let a = c .before .before .before .before .before .before .before .before .args in
-    let r = c .before .before .before .before .before .before .before .before .pre in
-    let i = a .i in
-    record {
-      pool = put-pool _ (now (a .numbers)) (now (a .times)) (now (a .states)) (now (a .waiters)) i 0 0 0 0 (r .1 .slot);
-      count = refl;
-      out = rw (reason-number (a .reason) (r .3) (r .4), id-at (a .head) (now (a .numbers)) (now (a .times)) (now (a .states)) (now (a .waiters)) i (r .1 .slot), ← c .before .before .before .before .as-u64 .ensures) (c .before .before .before .emit .ensures);
-    }
+    let start = c .before .before .before .before .before .before .before .before in
+    let a = start .args in
+    let r = start .pre in
+    closed-done (a .head) (now (a .numbers)) (now (a .times)) (now (a .states)) (now (a .waiters)) (a .i) (a .reason) (a .other) _ (r .1 .slot) (r .3) (r .4)
+    (c .before .before .before .before .as-u64 .ensures) (c .before .before .before .emit .ensures) _ refl
 
 pub close-connection-spec : {M : Type 1} → statement M
 close-connection-spec =
@@ -87,6 +79,6 @@ close-connection-spec =
     element-write-times
     element-write-states
     sub-h
-    add-t18
+    add-t19
     same-length
     returns)

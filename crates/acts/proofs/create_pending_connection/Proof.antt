@@ -1,15 +1,9 @@
-use mathlib.Core.Path.{_≡_, refl, sym, ap, _∙_}
+use mathlib.Core.Path.{refl}
 use Prim.Native.Nat.{_<_}
 use native.Mathlib.Omega.{arith}
 use denote.Ref.{now}
-use lib.ListN.{take}
 use Rattle.definition.specs.Pool.{slotCount}
-use Rattle.definition.specs.Steps.{_>>_}
-use Rattle.slots.specs.Order.{place}
-use Rattle.slots.specs.OrderLaws.{place-front}
-use Rattle.slots.specs.Done.{lay}
-use Rattle.slots.specs.Slots.{createPendingConnection}
-use Rattle.slots.specs.Parts.{created-pool}
+use Rattle.slots.specs.ActExits.{created-done}
 use borrow.Author.Needs.{needs}
 use Rattle.acts.proofs.create_pending_connection.Statement.{statement}
 use Rattle.acts.proofs.create_pending_connection.Tie as tie
@@ -17,17 +11,14 @@ use Rattle.acts.proofs.create_pending_connection.Reads as reads
 use Rattle.acts.proofs.create_pending_connection.Lts as lts
 use Rattle.words.proofs.as_u64.Reads as as-u64-reads
 use Rattle.table.proofs.emit.Reads as emit-reads
-use Rattle.table.proofs.find.Reads as find-reads
+use Rattle.table.proofs.find_vacant.Reads as find-vacant-reads
 
--- the first vacant slot, and that there is one
-found : (c : tie.After-find) → c .find .result ≡ place 0 slotCount (take slotCount (now (c .before .before .before .args .numbers)))
-found c = c .find .ensures ∙ sym (place-front _ 0 slotCount slotCount _ (omega arith))
+-- there is a vacant slot
+low : (d : tie.After-find-vacant) → d .find-vacant .result < slotCount
+low d = omega (arith, d .find-vacant .ensures, d .before .before .before .pre .1 .spot)
 
-low : (c : tie.After-find) → c .find .result < slotCount
-low c = omega (arith, found c, c .before .before .before .pre .1 .spot)
-
-find-requires : tie.Need-find-requires
-find-requires c κs = search needs
+find-vacant-requires : tie.Need-find-vacant-requires
+find-vacant-requires c κs = search needs
 
 as-u64-requires : tie.Need-as-u64-requires
 as-u64-requires c κs = search needs
@@ -75,21 +66,17 @@ same-length : tie.Need-same-length
 same-length c = search needs
 
 returns : tie.Need-returns
-unfolding createPendingConnection lay _>>_
 returns c =
-    let a = c .before .before .before .before .before .before .before .before .before .before .before .args in
-    let h = a .head in
-    record {
-      pool = created-pool _ (now (a .numbers)) (now (a .times)) (now (a .states)) (now (a .waiters)) (c .before .before .before .before .before .before .before .before .find .result) (h .«next_connection_id») (h .status .generation) (h .clock) (a .state) (found (c .before .before .before .before .before .before .before .before)) (low (c .before .before .before .before .before .before .before .before));
-      count = refl;
-      out = rw (← c .before .before .before .before .before .before .as-u64 .ensures) (c .before .before .before .before .before .emit .ensures);
-    }
+    let d = c .before .before .before .before .before .before .before .before in
+    let a = d .before .before .before .args in
+    created-done (a .head) (now (a .numbers)) (now (a .times)) (now (a .states)) (now (a .waiters)) (d .find-vacant .result) (a .state) _ (d .find-vacant .ensures) (low d)
+    (c .before .before .before .before .before .before .as-u64 .ensures) (c .before .before .before .before .before .emit .ensures) _ refl
 
 pub create-pending-connection-spec : {M : Type 1} → statement M
 create-pending-connection-spec =
     tie.close
     (tie.spec
-    find-requires
+    find-vacant-requires
     as-u64-requires
     emit-requires
     mul-numbers

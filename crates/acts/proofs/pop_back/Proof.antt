@@ -1,3 +1,4 @@
+use native.Mathlib.Omega.{arith}
 use Prim.Native.Nat.{_-_}
 use mathlib.Core.Path.{_≡_, refl}
 use denote.Ref.{now}
@@ -22,7 +23,7 @@ returns : tie.Need-returns
 unfolding popBack
 returns c =
     let a = c .before .args in
-    list-pool _ (now (a .numbers)) (now (a .times)) (now (a .states)) (now (a .waiters)) (a .head .«available_count» - 1) 0
+    list-pool _ (now (a .numbers)) (now (a .times)) (now (a .states)) (now (a .waiters)) (a .head .«available_count» - 1) 0 (omega (arith, c .before .pre .1 .fits))
 
 pub pop-back-spec : {M : Type 1} → statement M
 pop-back-spec = tie.close (tie.spec sub-k add-states element-write-states returns)

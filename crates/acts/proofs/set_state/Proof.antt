@@ -21,7 +21,7 @@ returns : tie.Need-returns
 unfolding setStateAt
 returns c =
     let a = c .args in
-    state-pool (a .head) (now (a .numbers)) (now (a .times)) (now (a .states)) (now (a .waiters)) (a .i) _ (a .state) (c .pre .1)
+    state-pool (a .head) (now (a .numbers)) (now (a .times)) (now (a .states)) (now (a .waiters)) (c .pre .0 .slots) (a .i) _ (a .state) (c .pre .1)
 
 pub set-state-spec : {M : Type 1} → statement M
 set-state-spec = tie.close (tie.spec mul-times element-write-times element-write-states returns)

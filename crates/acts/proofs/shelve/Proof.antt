@@ -33,7 +33,7 @@ returns : tie.Need-returns
 unfolding shelve
 returns c =
     let a = c .args in
-    shelved-pool _ (now (a .numbers)) (now (a .times)) (now (a .states)) (now (a .waiters)) (a .head .«available_count») (a .i) (a .since) (c .pre .1 .slot)
+    shelved-pool _ (now (a .numbers)) (now (a .times)) (now (a .states)) (now (a .waiters)) (c .pre .0 .slots) (a .head .«available_count») (a .i) (a .since) (c .pre .1 .spot) (c .pre .1 .slot)
 
 pub shelve-spec : {M : Type 1} → statement M
 shelve-spec =

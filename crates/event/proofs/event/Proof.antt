@@ -6,9 +6,9 @@ use denote.Ref.{now}
 use lib.ListN.{length}
 use Rattle.definition.specs.Words.{if_then_else_}
 use Rattle.definition.specs.Steps.{nothing, serviced}
-use Rattle.slots.specs.View.{SlotPool, poolOf}
+use Rattle.slots.specs.View.{SlotPool, poolOf, withClock}
 use Rattle.slots.specs.DoneLaws.{done-then, done-as, done-serial, done-nothing}
-use Rattle.slots.specs.Slots.{event, handle, service, withClock}
+use Rattle.slots.specs.Slots.{event, handle, service}
 use Rattle.refinement.specs.Leaves.{handle-leaves}
 use Rattle.event.specs.Laws.{asks, serves, then-service, then-nothing}
 use borrow.Author.Needs.{needs}

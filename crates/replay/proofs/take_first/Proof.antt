@@ -4,7 +4,8 @@ use Rattle.definition.specs.Pool.{inRange}
 use Rattle.definition.specs.Bytes.{optionsOfLine}
 use Rattle.slots.specs.View.{poolOf}
 use Rattle.slots.specs.declared.Head.{Head}
-use Rattle.refinement.specs.Formed.{freshHead, overBlank}
+use Rattle.refinement.specs.Alike.{freshHead}
+use Rattle.refinement.specs.Formed.{overBlank}
 use Rattle.text.specs.Given.{optionsIn}
 use Rattle.replay.specs.declared.Taken.{Taken}
 use Rattle.replay.specs.Code.{Opens}

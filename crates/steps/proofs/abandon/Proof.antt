@@ -2,8 +2,8 @@ use mathlib.Core.Path.{_≡_, refl, ap}
 use Prim.Native.Nat.{ℕ}
 use denote.Ref.{now}
 use lib.ListN.{set}
-use Rattle.slots.specs.View.{poolOf}
-use Rattle.slots.specs.Slots.{abandonAt, withWaiters}
+use Rattle.slots.specs.View.{poolOf, withWaiters}
+use Rattle.slots.specs.Slots.{abandonAt}
 use borrow.Author.Needs.{needs}
 use Rattle.steps.proofs.abandon.Statement.{statement}
 use Rattle.steps.proofs.abandon.Tie as tie

@@ -8,11 +8,11 @@ use Rattle.definition.specs.Words.{if_then_else_, _=?_}
 use Rattle.definition.specs.Records.{ConnectionCheckedIn}
 use Rattle.definition.specs.Steps.{emit, _>>_}
 use Rattle.definition.specs.declared.ClosedReason.the-variants.{Stale, Error, Dropped}
-use Rattle.slots.specs.View.{poolOf}
+use Rattle.slots.specs.View.{poolOf, idAt, staleAt}
 use Rattle.slots.specs.DoneLaws.{done-then, done-emit, done-quiet, done-as}
 use Rattle.slots.specs.StepLaws.{checkIn-closed, checkIn-errored, checkIn-stale, checkIn-executing, checkIn-kept}
 use Rattle.slots.specs.Parts.{id-at, generation-at}
-use Rattle.slots.specs.Slots.{closeAt, shelve, idAt, staleAt}
+use Rattle.slots.specs.Slots.{closeAt, shelve}
 use borrow.Author.Needs.{needs}
 use Rattle.steps.proofs.check_in.Statement.{statement}
 use Rattle.steps.proofs.check_in.Tie as tie

@@ -2,10 +2,10 @@ use mathlib.Core.Path.{_≡_, refl}
 use denote.Ref.{now}
 use Rattle.definition.specs.Records.{ConnectionReady}
 use Rattle.definition.specs.Steps.{emit, _>>_}
-use Rattle.slots.specs.View.{poolOf}
+use Rattle.slots.specs.View.{poolOf, idAt}
 use Rattle.slots.specs.DoneLaws.{done-then, done-emit, done-quiet}
 use Rattle.slots.specs.Parts.{id-at}
-use Rattle.slots.specs.Slots.{succeededAt, leavePending, setStateAt, idAt}
+use Rattle.slots.specs.Slots.{succeededAt, leavePending, setStateAt}
 use borrow.Author.Needs.{needs}
 use Rattle.steps.proofs.handle_connection_succeeded.Statement.{statement}
 use Rattle.steps.proofs.handle_connection_succeeded.Tie as tie

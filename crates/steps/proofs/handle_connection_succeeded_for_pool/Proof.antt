@@ -6,11 +6,11 @@ use Rattle.definition.specs.Words.{if_then_else_}
 use Rattle.definition.specs.Records.{ConnectionReady}
 use Rattle.definition.specs.Steps.{emit, _>>_}
 use Rattle.definition.specs.declared.ClosedReason.the-variants.{PoolClosed}
-use Rattle.slots.specs.View.{poolOf}
+use Rattle.slots.specs.View.{poolOf, idAt}
 use Rattle.slots.specs.DoneLaws.{done-then, done-emit, done-quiet, done-as}
 use Rattle.slots.specs.StepLaws.{opened-closed, opened-kept}
 use Rattle.slots.specs.Parts.{id-at}
-use Rattle.slots.specs.Slots.{leavePending, closeAt, shelve, idAt}
+use Rattle.slots.specs.Slots.{leavePending, closeAt, shelve}
 use borrow.Author.Needs.{needs}
 use Rattle.steps.proofs.handle_connection_succeeded_for_pool.Statement.{statement}
 use Rattle.steps.proofs.handle_connection_succeeded_for_pool.Tie as tie

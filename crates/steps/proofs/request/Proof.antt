@@ -3,10 +3,9 @@ use Prim.Native.Nat.{ℕ, _+_, _*_}
 use denote.Ref.{now}
 use lib.ListN.{set}
 use Rattle.definition.specs.Records.{Replied, Cleared}
-use Rattle.slots.specs.View.{poolOf}
+use Rattle.slots.specs.View.{poolOf, withLastRequest, withWaiters}
 use Rattle.slots.specs.DoneLaws.{done-emit, done-quiet, done-as}
 use Rattle.slots.specs.StepLaws.{request-new, request-paused, request-ready, request-closed}
-use Rattle.slots.specs.Slots.{withLastRequest, withWaiters}
 use borrow.Author.Needs.{needs}
 use Rattle.steps.proofs.request.Statement.{statement}
 use Rattle.steps.proofs.request.Tie as tie

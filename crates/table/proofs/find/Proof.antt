@@ -1,6 +1,8 @@
+use mathlib.Core.Path.{sym, _∙_}
 use Prim.Native.Nat.{_-_}
 use native.Mathlib.Omega.{arith}
 use Rattle.definition.specs.Pool.{slotCount}
+use Rattle.slots.specs.Finding.{holding-in}
 use Rattle.table.proofs.Laws.{Searching, searching-start, searching-step, searching-hit, searching-end}
 use borrow.Author.Needs.{needs}
 use Rattle.table.proofs.find.Statement.{statement}
@@ -22,7 +24,7 @@ element-copy-out-if1 : tie.Need-element-copy-out-if1 Inv-loop μ-loop
 element-copy-out-if1 c = search needs
 
 returns : tie.Need-returns Inv-loop μ-loop
-returns c = searching-hit (c .before .before .before .loop .inv) (omega arith) (c .if1 .taken)
+returns c = searching-hit (c .before .before .before .loop .inv) (omega arith) (c .if1 .taken) ∙ sym (holding-in _ _)
 
 add-i : tie.Need-add-i Inv-loop μ-loop
 add-i c = search needs
@@ -34,7 +36,7 @@ loop-again : tie.Need-loop-again Inv-loop μ-loop
 loop-again c = searching-step (c .before .before .before .loop .inv) (omega arith) (c .if1 .left)
 
 returns-2 : tie.Need-returns-2 Inv-loop μ-loop
-returns-2 c = searching-end (c .before .loop .inv) (omega arith)
+returns-2 c = searching-end (c .before .loop .inv) (omega arith) ∙ sym (holding-in _ _)
 
 pub find-spec : {M : Type 1} → statement M
 find-spec =

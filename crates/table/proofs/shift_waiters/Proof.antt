@@ -1,19 +1,18 @@
-use mathlib.Core.Path.{refl}
 use Prim.Native.Nat.{_-_}
 use native.Mathlib.Omega.{arith}
-use Rattle.table.proofs.Laws.{Shifting, shifting-step, shifting-end}
+use Rattle.table.proofs.Laws.{Shifting, shifting-start, shifting-step, shifting-end}
 use borrow.Author.Needs.{needs}
 use Rattle.table.proofs.shift_waiters.Statement.{statement}
 use Rattle.table.proofs.shift_waiters.Tie as tie
 
 abbrev Inv-loop : tie.InvT-loop
-Inv-loop waiters₀ n i₀ waiters i = Shifting 0 n waiters₀ waiters i
+Inv-loop waiters₀ n i₀ waiters i = Shifting n waiters₀ waiters i
 
 abbrev μ-loop : tie.MeasureT-loop
 μ-loop waiters₀ n i₀ waiters i = n - i
 
 loop-holds : tie.Need-loop-holds Inv-loop μ-loop
-loop-holds c = record { some = omega arith; low = omega arith; long = omega arith; front = refl; back = refl }
+loop-holds c = shifting-start _ _ (c .pre .0) (omega arith)
 
 mul-waiters : tie.Need-mul-waiters Inv-loop μ-loop
 mul-waiters c = search needs
@@ -37,7 +36,7 @@ loop-less : tie.Need-loop-less Inv-loop μ-loop
 loop-less c = search needs
 
 loop-again : tie.Need-loop-again Inv-loop μ-loop
-loop-again c = shifting-step _ _ _ _ _ _ _ (omega arith) (omega arith) (c .before .before .loop .inv) (c .before .loop-test .taken)
+loop-again c = shifting-step _ _ _ _ (c .before .before .loop .inv) (c .before .loop-test .taken)
 
 sub-waiters-2 : tie.Need-sub-waiters-2 Inv-loop μ-loop
 sub-waiters-2 c = search needs
@@ -49,9 +48,7 @@ element-write-waiters-2 : tie.Need-element-write-waiters-2 Inv-loop μ-loop
 element-write-waiters-2 c = search needs
 
 returns : tie.Need-returns Inv-loop μ-loop
-returns c =
-    let n = c .before .before .args .n in
-    shifting-end 0 n _ _ _ (n - 1) (omega arith) (c .before .loop .inv) (c .loop-test .left) .1
+returns c = shifting-end _ _ _ _ (c .before .loop .inv) (c .loop-test .left)
 
 pub shift-waiters-spec : {M : Type 1} → statement M
 shift-waiters-spec =

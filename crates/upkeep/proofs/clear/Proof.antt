@@ -5,9 +5,9 @@ use native.Mathlib.Omega.{arith}
 use denote.Ref.{now}
 use Rattle.definition.specs.Steps.{_>>_}
 use Rattle.definition.specs.declared.PoolState.the-variants.{Paused}
-use Rattle.slots.specs.View.{poolOf}
+use Rattle.slots.specs.View.{poolOf, withStatus}
 use Rattle.slots.specs.DoneLaws.{done-then, done-quiet}
-use Rattle.slots.specs.Slots.{interrupted, clearedReady, enter, clear, withStatus}
+use Rattle.slots.specs.Slots.{interrupted, clearedReady, enter, clear}
 use borrow.Author.Needs.{needs}
 use Rattle.upkeep.proofs.clear.Statement.{statement}
 use Rattle.upkeep.proofs.clear.Tie as tie

@@ -6,8 +6,7 @@ use lib.ListN.{length, getD, take, drop, List·getD-eq-default}
 use Rattle.definition.specs.Pool.{slotCount}
 use Rattle.slots.specs.Order.{place}
 use Rattle.slots.specs.OrderLaws.{place-front}
-use Rattle.slots.specs.View.{Slot, rows}
-use Rattle.slots.specs.Slots.{vacant}
+use Rattle.slots.specs.View.{Slot, rows, vacant}
 use Rattle.slots.specs.Parts.{row-at}
 use lib.Seq.{getD-take}
 use borrow.Author.Needs.{needs}

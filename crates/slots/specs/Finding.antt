@@ -1,0 +1,54 @@
+-- What is known of the slot that is found for an id, and of the one that is found free: all that anybody above relies on.
+use mathlib.Core.Path.{_≡_}
+use mathlib.Core.Bool.{Bool, true, false}
+use mathlib.Core.List.{List, [], _∷_}
+use Prim.Native.Nat.{ℕ, zero, suc, _+_, _≤_, _<_}
+use native.Mathlib.Omega.{arith}
+use lib.ListN.{length, getD}
+use Rattle.definition.specs.Words.{if_then_else_, _=?_}
+use Rattle.definition.specs.Pool.{slotCount}
+use Rattle.slots.specs.Columns.{column}
+use Rattle.slots.specs.Order.{placeBy, place, slotHolding, vacantSlot}
+use Rattle.slots.specs.OrderLaws.{place-found, place-before, place-front}
+use Rattle.slots.specs.Needs.{taken}
+
+module _ (ids : List ℕ) where
+  -- the slot that is found holds the id; and where none is found, no slot holds it
+  pub holding-at : (id : ℕ) → slotHolding id ids < slotCount → getD ids (slotHolding id ids) 0 ≡ id
+  unfolding slotHolding
+  holding-at id h = place-found (λ v. v) id slotCount ids h
+
+  pub holding-none : (id : ℕ) → slotCount ≤ slotHolding id ids → (j : ℕ) → j < slotCount → getD ids j 0 ≡ id → ⊥
+  unfolding slotHolding
+  holding-none id h j g = place-before (λ v. v) id slotCount ids j (omega arith)
+
+  -- the slot that is found free has no id
+  pub vacant-at : vacantSlot ids < slotCount → getD ids (vacantSlot ids) 0 ≡ 0
+  unfolding vacantSlot
+  vacant-at h = place-found (λ v. v) 0 slotCount ids h
+
+-- the code looks through the array in which the ids are the first column
+module _ (numbers : List ℕ) where
+  pub holding-in : (id : ℕ) → slotHolding id (column 0 numbers) ≡ place id slotCount numbers
+  unfolding slotHolding column
+  holding-in id = place-front (λ v. v) id slotCount slotCount numbers (omega arith)
+
+  pub vacant-in : vacantSlot (column 0 numbers) ≡ place 0 slotCount numbers
+  unfolding vacantSlot column
+  vacant-in = place-front (λ v. v) 0 slotCount slotCount numbers (omega arith)
+
+place-if : (b : Bool) (n t x : ℕ) → (if b then 0 else 1) + t < suc n → (t < n → x < n) → (if b then 0 else suc x) < suc n
+unfolding if_then_else_
+place-if true n t x h f = omega arith
+place-if false n t x h f = omega (arith, f (omega arith))
+
+place-free : (n : ℕ) (l : List ℕ) → length l ≡ n → taken l < n → place 0 n l < n
+unfolding taken placeBy
+place-free zero l e h = absurd (omega arith)
+place-free (suc n) [] e h = absurd (omega arith)
+place-free (suc n) (x ∷ l) e h = place-if (x =? 0) n (taken l) _ h (place-free n l (omega arith))
+
+-- where not all are taken, one is found free
+pub vacant-found : (ids : List ℕ) → length ids ≡ slotCount → taken ids < slotCount → vacantSlot ids < slotCount
+unfolding vacantSlot
+vacant-found ids e h = place-free slotCount ids e h

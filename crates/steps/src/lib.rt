@@ -13,7 +13,7 @@ use acts::Progress;
 use definition::PoolState;
 use slots::Numbers;
 use slots::Head;
-use definition::SLOTS;
+use slots::GENERATIONS;
 use slots::States;
 use slots::Times;
 use slots::Waiters;
@@ -112,17 +112,17 @@ pub fn check_in(
     let m = head.status;
     let st = m.state;
     if conditions::is_closed(st) {
-        return acts::close_connection(head, numbers, times, states, waiters, out, n, i, 5);
+        return acts::close_connection(head, numbers, times, states, waiters, out, n, i, 5, 0);
     }
     table::emit(out, n, head.serial, 3, 0, words::as_u64(numbers[i]), 0);
     if errored {
-        return acts::close_connection(head, numbers, times, states, waiters, out, n + 1, i, 3);
+        return acts::close_connection(head, numbers, times, states, waiters, out, n + 1, i, 3, 0);
     }
-    if numbers[SLOTS + i] != m.generation {
-        return acts::close_connection(head, numbers, times, states, waiters, out, n + 1, i, 2);
+    if conditions::is_stale(m.generation, numbers[GENERATIONS + i]) {
+        return acts::close_connection(head, numbers, times, states, waiters, out, n + 1, i, 2, 0);
     }
     if executing {
-        return acts::close_connection(head, numbers, times, states, waiters, out, n + 1, i, 4);
+        return acts::close_connection(head, numbers, times, states, waiters, out, n + 1, i, 4, 0);
     }
     let h = acts::shelve(head, numbers, times, states, waiters, i, let_go);
     Progress {
@@ -176,7 +176,7 @@ pub fn handle_connection_succeeded_for_pool(
     let m = h.status;
     let st = m.state;
     if conditions::is_closed(st) {
-        return acts::close_connection(h, numbers, times, states, waiters, out, n + 1, i, 5);
+        return acts::close_connection(h, numbers, times, states, waiters, out, n + 1, i, 5, 0);
     }
     let h2 = acts::shelve(h, numbers, times, states, waiters, i, opened);
     Progress {
@@ -200,5 +200,5 @@ pub fn handle_connection_failed(
 {
     let mut h = head;
     h.pending_connection_count = h.pending_connection_count - 1;
-    acts::close_connection(h, numbers, times, states, waiters, out, n, i, 3)
+    acts::close_connection(h, numbers, times, states, waiters, out, n, i, 3, 0)
 }

@@ -1,35 +1,48 @@
-use mathlib.Core.Path.{_≡_, refl, sym, ap, _∙_}
-use mathlib.Core.Bool.{Bool, true, false, not}
-use Prim.Native.Nat.{ℕ}
+use mathlib.Core.Path.{_≡_, sym, _∙_}
+use mathlib.Core.Bool.{Bool}
 use native.Mathlib.Omega.{arith}
-use borrow.Author.Tests.{eq-eqb, ne-eqb}
 use denote.Ref.{now}
-use Rattle.definition.specs.Words.{if_then_else_, _=?_}
-use Rattle.definition.specs.Records.{ConnectionCheckedIn}
-use Rattle.definition.specs.Steps.{emit, _>>_}
-use Rattle.definition.specs.declared.ClosedReason.the-variants.{Stale, Error, Dropped}
-use Rattle.slots.specs.View.{poolOf, idAt, staleAt}
-use Rattle.slots.specs.DoneLaws.{done-then, done-emit, done-quiet, done-as}
-use Rattle.slots.specs.StepLaws.{checkIn-closed, checkIn-errored, checkIn-stale, checkIn-executing, checkIn-kept}
+use Rattle.definition.specs.Words.{if_then_else_}
+use Rattle.definition.specs.Pool.{staleIn}
+use Rattle.slots.specs.View.{SlotPool, poolOf, slotAt}
 use Rattle.slots.specs.Parts.{id-at, generation-at}
-use Rattle.slots.specs.Slots.{closeAt, shelve}
+use Rattle.steps.specs.Exits.{CheckedIn, checked-in, tested, in-closed, in-errored, in-stale, in-executing, in-kept}
 use borrow.Author.Needs.{needs}
 use Rattle.steps.proofs.check_in.Statement.{statement}
 use Rattle.steps.proofs.check_in.Tie as tie
 use Rattle.steps.proofs.check_in.Reads as reads
 use Rattle.steps.proofs.check_in.Lts as lts
-use Rattle.acts.proofs.close_connection.Reads as close-connection-reads
 use Rattle.conditions.proofs.is_closed.Reads as is-closed-reads
+use Rattle.conditions.proofs.is_stale.Reads as is-stale-reads
 use Rattle.words.proofs.as_u64.Reads as as-u64-reads
-use Rattle.acts.proofs.shelve.Reads as shelve-reads
 use Rattle.table.proofs.emit.Reads as emit-reads
+use Rattle.acts.proofs.close_connection.Reads as close-connection-reads
+use Rattle.acts.proofs.shelve.Reads as shelve-reads
 
--- what the code's test says of slot i
-stale-yes : (g g' x : ℕ) → x ≡ g' → (g' ≡ g → ⊥) → not (x =? g) ≡ true
-stale-yes g g' x e n = rw (e, ne-eqb g' g n)
+-- the pool that the step is lent
+abbrev lent : tie.Start → SlotPool
+lent s = let a = s .args in poolOf (a .head) (now (a .numbers)) (now (a .times)) (now (a .states)) (now (a .waiters))
 
-stale-no : (g g' x : ℕ) → x ≡ g' → g' ≡ g → not (x =? g) ≡ false
-stale-no g g' x e n = rw (e, eq-eqb g' g n)
+-- once the record of the check-in is written
+abbrev start : tie.After-emit → tie.Start
+start d = d .before .before .before .before .before .before .before .before
+
+said : (d : tie.After-emit) → let a = start d .args in CheckedIn (lent (start d)) (a .i) (a .head .serial) (a .n) (now (a .out)) (d .emit .last .0)
+said d =
+    let a = start d .args in
+    let id = id-at (a .head) (now (a .numbers)) (now (a .times)) (now (a .states)) (now (a .waiters)) (a .i) (start d .pre .1 .slot) in
+    let going = d .before .before .before .before in
+    checked-in (lent (start d)) (a .i) (going .before .is-closed .ensures) (going .if1 .left) (d .before .as-u64 .ensures ∙ sym id) (d .emit .ensures)
+
+-- and once the connection's generation is looked at
+abbrev emitted : tie.After-is-stale → tie.After-emit
+emitted d = d .before .before .before .before .before
+
+stale : (d : tie.After-is-stale) {b : Bool} → d .is-stale .result ≡ b → let a = start (emitted d) .args in staleIn (lent (start (emitted d)) .generation) (slotAt (lent (start (emitted d))) (a .i) .generation) ≡ b
+stale d h =
+    let s = start (emitted d) in
+    let a = s .args in
+    tested (lent s) (a .i) (d .is-stale .ensures) (sym (generation-at (a .head) (now (a .numbers)) (now (a .times)) (now (a .states)) (now (a .waiters)) (s .pre .0) (a .i) (s .pre .1 .slot))) h
 
 is-closed-requires : tie.Need-is-closed-requires
 is-closed-requires c κs = search needs
@@ -43,8 +56,10 @@ same-length c = search needs
 returns : tie.Need-returns
 unfolding if_then_else_
 returns c =
-    let a = c .before .before .before .before .before .before .before .before .before .before .before .before .args in
-    done-as (checkIn-closed (poolOf (a .head) (now (a .numbers)) (now (a .times)) (now (a .states)) (now (a .waiters))) (a .i) (a .errored) (a .executing) (a .let-go) (sym (c .before .before .before .before .before .before .before .before .before .is-closed .ensures) ∙ c .before .before .before .before .before .before .before .before .if1 .taken)) (c .before .before .close-connection .ensures)
+    let start = c .before .before .before .before .before .before .before .before .before .before .before .before in
+    let a = start .args in
+    let taken = c .before .before .before .before .before .before .before .before in
+    in-closed (lent start) (a .i) (a .errored) (a .executing) (a .let-go) (taken .before .is-closed .ensures) (taken .if1 .taken) (c .before .before .close-connection .ensures)
 
 mul-as-u64 : tie.Need-mul-as-u64
 mul-as-u64 c = search needs
@@ -70,20 +85,22 @@ same-length-2 c = search needs
 returns-2 : tie.Need-returns-2
 unfolding if_then_else_
 returns-2 c =
-    let a = c .before .before .before .before .before .before .before .before .before .before .before .before .before .before .before .before .before .before .before .args in
-    let r = ConnectionCheckedIn (idAt (poolOf (a .head) (now (a .numbers)) (now (a .times)) (now (a .states)) (now (a .waiters))) (a .i)) in
-    let i = id-at (a .head) (now (a .numbers)) (now (a .times)) (now (a .states)) (now (a .waiters)) (a .i) (c .before .before .before .before .before .before .before .before .before .before .before .before .before .before .before .before .before .before .before .pre .1 .slot) in
-    done-as (checkIn-errored (poolOf (a .head) (now (a .numbers)) (now (a .times)) (now (a .states)) (now (a .waiters))) (a .i) (a .errored) (a .executing) (a .let-go) (sym (c .before .before .before .before .before .before .before .before .before .before .before .before .before .before .before .before .is-closed .ensures) ∙ c .before .before .before .before .before .before .before .before .before .before .before .before .before .before .before .if1 .left) (c .before .before .before .before .before .before .before .before .if2 .taken))
-    (done-then (emit r) (closeAt Error (a .i)) (poolOf (a .head) (now (a .numbers)) (now (a .times)) (now (a .states)) (now (a .waiters))) (poolOf (a .head) (now (a .numbers)) (now (a .times)) (now (a .states)) (now (a .waiters))) _ (done-emit r (poolOf (a .head) (now (a .numbers)) (now (a .times)) (now (a .states)) (now (a .waiters))) refl (rw (i, ← c .before .before .before .before .before .before .before .before .before .before .before .before .as-u64 .ensures) (c .before .before .before .before .before .before .before .before .before .before .before .emit .ensures))) (c .before .before .close-connection2 .ensures))
+    let taken = c .before .before .before .before .before .before .before .before in
+    let emitted = taken .before .before .before in
+    let a = start emitted .args in
+    in-errored (lent (start emitted)) (a .i) (a .errored) (a .executing) (a .let-go) (said emitted) (taken .if2 .taken) (c .before .before .close-connection2 .ensures)
 
-add-if3 : tie.Need-add-if3
-add-if3 c = search needs
+add-is-stale : tie.Need-add-is-stale
+add-is-stale c = search needs
 
-mul-if3 : tie.Need-mul-if3
-mul-if3 c = search needs
+mul-is-stale : tie.Need-mul-is-stale
+mul-is-stale c = search needs
 
-element-copy-out-if3 : tie.Need-element-copy-out-if3
-element-copy-out-if3 c = search needs
+element-copy-out-is-stale : tie.Need-element-copy-out-is-stale
+element-copy-out-is-stale c = search needs
+
+is-stale-requires : tie.Need-is-stale-requires
+is-stale-requires c κs = search needs
 
 add-close-connection-2 : tie.Need-add-close-connection-2
 add-close-connection-2 c = search needs
@@ -97,13 +114,10 @@ same-length-3 c = search needs
 returns-3 : tie.Need-returns-3
 unfolding if_then_else_
 returns-3 c =
-    let a = c .before .before .before .before .before .before .before .before .before .before .before .before .before .before .before .before .before .before .before .before .before .before .args in
-    let r = ConnectionCheckedIn (idAt (poolOf (a .head) (now (a .numbers)) (now (a .times)) (now (a .states)) (now (a .waiters))) (a .i)) in
-    let low = c .before .before .before .before .before .before .before .before .before .before .before .before .before .before .before .before .before .before .before .before .before .before .pre .1 .slot in
-    let i = id-at (a .head) (now (a .numbers)) (now (a .times)) (now (a .states)) (now (a .waiters)) (a .i) low in
-    let g = generation-at (a .head) (now (a .numbers)) (now (a .times)) (now (a .states)) (now (a .waiters)) (c .before .before .before .before .before .before .before .before .before .before .before .before .before .before .before .before .before .before .before .before .before .before .pre .0) (a .i) low in
-    done-as (checkIn-stale (poolOf (a .head) (now (a .numbers)) (now (a .times)) (now (a .states)) (now (a .waiters))) (a .i) (a .errored) (a .executing) (a .let-go) (sym (c .before .before .before .before .before .before .before .before .before .before .before .before .before .before .before .before .before .before .before .is-closed .ensures) ∙ c .before .before .before .before .before .before .before .before .before .before .before .before .before .before .before .before .before .before .if1 .left) (c .before .before .before .before .before .before .before .before .before .before .before .if2 .left) (stale-yes _ _ _ g (c .before .before .before .before .before .before .before .before .if3 .taken)))
-    (done-then (emit r) (closeAt Stale (a .i)) (poolOf (a .head) (now (a .numbers)) (now (a .times)) (now (a .states)) (now (a .waiters))) (poolOf (a .head) (now (a .numbers)) (now (a .times)) (now (a .states)) (now (a .waiters))) _ (done-emit r (poolOf (a .head) (now (a .numbers)) (now (a .times)) (now (a .states)) (now (a .waiters))) refl (rw (i, ← c .before .before .before .before .before .before .before .before .before .before .before .before .before .before .before .as-u64 .ensures) (c .before .before .before .before .before .before .before .before .before .before .before .before .before .before .emit .ensures))) (c .before .before .close-connection3 .ensures))
+    let taken = c .before .before .before .before .before .before .before .before in
+    let a = start (emitted (taken .before)) .args in
+    in-stale (lent (start (emitted (taken .before)))) (a .i) (a .errored) (a .executing) (a .let-go) (said (emitted (taken .before))) (taken .before .before .before .if2 .left)
+    (stale (taken .before) (taken .if3 .taken)) (c .before .before .close-connection3 .ensures)
 
 add-close-connection-3 : tie.Need-add-close-connection-3
 add-close-connection-3 c = search needs
@@ -117,33 +131,30 @@ same-length-4 c = search needs
 returns-4 : tie.Need-returns-4
 unfolding if_then_else_
 returns-4 c =
-    let a = c .before .before .before .before .before .before .before .before .before .before .before .before .before .before .before .before .before .before .before .before .before .before .before .args in
-    let r = ConnectionCheckedIn (idAt (poolOf (a .head) (now (a .numbers)) (now (a .times)) (now (a .states)) (now (a .waiters))) (a .i)) in
-    let low = c .before .before .before .before .before .before .before .before .before .before .before .before .before .before .before .before .before .before .before .before .before .before .before .pre .1 .slot in
-    let i = id-at (a .head) (now (a .numbers)) (now (a .times)) (now (a .states)) (now (a .waiters)) (a .i) low in
-    let g = generation-at (a .head) (now (a .numbers)) (now (a .times)) (now (a .states)) (now (a .waiters)) (c .before .before .before .before .before .before .before .before .before .before .before .before .before .before .before .before .before .before .before .before .before .before .before .pre .0) (a .i) low in
-    done-as (checkIn-executing (poolOf (a .head) (now (a .numbers)) (now (a .times)) (now (a .states)) (now (a .waiters))) (a .i) (a .errored) (a .executing) (a .let-go) (sym (c .before .before .before .before .before .before .before .before .before .before .before .before .before .before .before .before .before .before .before .before .is-closed .ensures) ∙ c .before .before .before .before .before .before .before .before .before .before .before .before .before .before .before .before .before .before .before .if1 .left) (c .before .before .before .before .before .before .before .before .before .before .before .before .if2 .left) (stale-no _ _ _ g (c .before .before .before .before .before .before .before .before .before .if3 .left)) (c .before .before .before .before .before .before .before .before .if4 .taken))
-    (done-then (emit r) (closeAt Dropped (a .i)) (poolOf (a .head) (now (a .numbers)) (now (a .times)) (now (a .states)) (now (a .waiters))) (poolOf (a .head) (now (a .numbers)) (now (a .times)) (now (a .states)) (now (a .waiters))) _ (done-emit r (poolOf (a .head) (now (a .numbers)) (now (a .times)) (now (a .states)) (now (a .waiters))) refl (rw (i, ← c .before .before .before .before .before .before .before .before .before .before .before .before .before .before .before .before .as-u64 .ensures) (c .before .before .before .before .before .before .before .before .before .before .before .before .before .before .before .emit .ensures))) (c .before .before .close-connection4 .ensures))
+    let taken = c .before .before .before .before .before .before .before .before in
+    let fresh = taken .before in
+    let a = start (emitted (fresh .before)) .args in
+    in-executing (lent (start (emitted (fresh .before)))) (a .i) (a .errored) (a .executing) (a .let-go) (said (emitted (fresh .before))) (fresh .before .before .before .if2 .left)
+    (stale (fresh .before) (fresh .if3 .left)) (taken .if4 .taken) (c .before .before .close-connection4 .ensures)
 
 shelve-requires : tie.Need-shelve-requires
 shelve-requires c κs = search needs
 
 add-t29 : tie.Need-add-t29
-add-t29 c = omega (arith, c .before .before .before .before .before .before .before .before .before .before .before .before .before .before .before .before .before .before .before .before .pre .3 .1)
+add-t29 c =
+    let tested = c .before .before .before .before .before .before .before in
+    omega (arith, start (emitted tested) .pre .3 .1)
 
 same-length-5 : tie.Need-same-length-5
 same-length-5 c = search needs
 
 returns-5 : tie.Need-returns-5
-unfolding shelve
 returns-5 c =
-    let a = c .before .before .before .before .before .before .before .before .before .before .before .before .before .before .before .before .before .before .before .before .args in
-    let r = ConnectionCheckedIn (idAt (poolOf (a .head) (now (a .numbers)) (now (a .times)) (now (a .states)) (now (a .waiters))) (a .i)) in
-    let low = c .before .before .before .before .before .before .before .before .before .before .before .before .before .before .before .before .before .before .before .before .pre .1 .slot in
-    let i = id-at (a .head) (now (a .numbers)) (now (a .times)) (now (a .states)) (now (a .waiters)) (a .i) low in
-    let g = generation-at (a .head) (now (a .numbers)) (now (a .times)) (now (a .states)) (now (a .waiters)) (c .before .before .before .before .before .before .before .before .before .before .before .before .before .before .before .before .before .before .before .before .pre .0) (a .i) low in
-    done-as (checkIn-kept (poolOf (a .head) (now (a .numbers)) (now (a .times)) (now (a .states)) (now (a .waiters))) (a .i) (a .errored) (a .executing) (a .let-go) (sym (c .before .before .before .before .before .before .before .before .before .before .before .before .before .before .before .before .before .is-closed .ensures) ∙ c .before .before .before .before .before .before .before .before .before .before .before .before .before .before .before .before .if1 .left) (c .before .before .before .before .before .before .before .before .before .if2 .left) (stale-no _ _ _ g (c .before .before .before .before .before .before .if3 .left)) (c .before .before .before .before .before .if4 .left))
-    (done-then (emit r) (shelve (a .i) (a .let-go)) (poolOf (a .head) (now (a .numbers)) (now (a .times)) (now (a .states)) (now (a .waiters))) (poolOf (a .head) (now (a .numbers)) (now (a .times)) (now (a .states)) (now (a .waiters))) _ (done-emit r (poolOf (a .head) (now (a .numbers)) (now (a .times)) (now (a .states)) (now (a .waiters))) refl (rw (i, ← c .before .before .before .before .before .before .before .before .before .before .before .before .before .as-u64 .ensures) (c .before .before .before .before .before .before .before .before .before .before .before .before .emit .ensures))) (done-quiet _ refl (c .shelve .ensures)))
+    let kept = c .before .before .before .before .before in
+    let fresh = kept .before in
+    let a = start (emitted (fresh .before)) .args in
+    in-kept (lent (start (emitted (fresh .before)))) (a .i) (a .errored) (a .executing) (a .let-go) (said (emitted (fresh .before))) (fresh .before .before .before .if2 .left)
+    (stale (fresh .before) (fresh .if3 .left)) (kept .if4 .left) (c .shelve .ensures)
 
 pub check-in-spec : {M : Type 1} → statement M
 check-in-spec =
@@ -161,9 +172,10 @@ check-in-spec =
     close-connection-requires-2
     same-length-2
     returns-2
-    add-if3
-    mul-if3
-    element-copy-out-if3
+    add-is-stale
+    mul-is-stale
+    element-copy-out-is-stale
+    is-stale-requires
     add-close-connection-2
     close-connection-requires-3
     same-length-3

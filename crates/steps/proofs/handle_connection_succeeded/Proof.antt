@@ -1,11 +1,9 @@
-use mathlib.Core.Path.{_≡_, refl}
+use mathlib.Core.Path.{refl, sym, _∙_}
 use denote.Ref.{now}
-use Rattle.definition.specs.Records.{ConnectionReady}
-use Rattle.definition.specs.Steps.{emit, _>>_}
-use Rattle.slots.specs.View.{poolOf, idAt}
-use Rattle.slots.specs.DoneLaws.{done-then, done-emit, done-quiet}
+use Rattle.slots.specs.View.{SlotPool, poolOf}
 use Rattle.slots.specs.Parts.{id-at}
-use Rattle.slots.specs.Slots.{succeededAt, leavePending, setStateAt}
+use Rattle.slots.specs.Slots.{leavePending}
+use Rattle.steps.specs.Exits.{ready-lent}
 use borrow.Author.Needs.{needs}
 use Rattle.steps.proofs.handle_connection_succeeded.Statement.{statement}
 use Rattle.steps.proofs.handle_connection_succeeded.Tie as tie
@@ -14,6 +12,10 @@ use Rattle.steps.proofs.handle_connection_succeeded.Lts as lts
 use Rattle.words.proofs.as_u64.Reads as as-u64-reads
 use Rattle.acts.proofs.set_state.Reads as set-state-reads
 use Rattle.table.proofs.emit.Reads as emit-reads
+
+-- the pool that the step is lent
+abbrev lent : tie.Start → SlotPool
+lent s = let a = s .args in poolOf (a .head) (now (a .numbers)) (now (a .times)) (now (a .states)) (now (a .waiters))
 
 mul-as-u64 : tie.Need-mul-as-u64
 mul-as-u64 c = search needs
@@ -40,14 +42,12 @@ same-length : tie.Need-same-length
 same-length c = search needs
 
 returns : tie.Need-returns
-unfolding succeededAt leavePending setStateAt
+unfolding leavePending
 returns c =
-    let a = c .before .before .before .before .before .before .before .before .before .before .before .before .before .args in
-    let r = ConnectionReady (idAt (poolOf (a .head) (now (a .numbers)) (now (a .times)) (now (a .states)) (now (a .waiters))) (a .i)) in
-    let i = id-at (a .head) (now (a .numbers)) (now (a .times)) (now (a .states)) (now (a .waiters)) (a .i) (c .before .before .before .before .before .before .before .before .before .before .before .before .before .pre .1 .slot) in
-    done-then (emit r) (leavePending >> setStateAt 2 (a .i)) (poolOf (a .head) (now (a .numbers)) (now (a .times)) (now (a .states)) (now (a .waiters))) (poolOf (a .head) (now (a .numbers)) (now (a .times)) (now (a .states)) (now (a .waiters))) _
-    (done-emit r (poolOf (a .head) (now (a .numbers)) (now (a .times)) (now (a .states)) (now (a .waiters))) refl (rw (i, ← c .before .before .before .before .before .before .before .before .before .as-u64 .ensures) (c .before .before .before .before .before .before .before .before .emit .ensures)))
-    (done-then leavePending (setStateAt 2 (a .i)) (poolOf (a .head) (now (a .numbers)) (now (a .times)) (now (a .states)) (now (a .waiters))) _ _ (done-quiet (leavePending (poolOf (a .head) (now (a .numbers)) (now (a .times)) (now (a .states)) (now (a .waiters)))) refl refl) (done-quiet _ refl (c .set-state .ensures)))
+    let start = c .before .before .before .before .before .before .before .before .before .before .before .before .before in
+    let a = start .args in
+    let id = id-at (a .head) (now (a .numbers)) (now (a .times)) (now (a .states)) (now (a .waiters)) (a .i) (start .pre .1 .slot) in
+    ready-lent (lent start) (a .i) (c .before .before .before .before .before .before .before .before .before .as-u64 .ensures ∙ sym id) (c .before .before .before .before .before .before .before .before .emit .ensures) _ (c .set-state .ensures)
 
 pub handle-connection-succeeded-spec : {M : Type 1} → statement M
 handle-connection-succeeded-spec =

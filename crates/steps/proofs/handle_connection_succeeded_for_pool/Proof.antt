@@ -1,16 +1,11 @@
-use mathlib.Core.Path.{_≡_, refl, sym, _∙_}
-use mathlib.Core.Bool.{true, false}
+use mathlib.Core.Path.{refl, sym, _∙_}
 use native.Mathlib.Omega.{arith}
 use denote.Ref.{now}
 use Rattle.definition.specs.Words.{if_then_else_}
-use Rattle.definition.specs.Records.{ConnectionReady}
-use Rattle.definition.specs.Steps.{emit, _>>_}
-use Rattle.definition.specs.declared.ClosedReason.the-variants.{PoolClosed}
-use Rattle.slots.specs.View.{poolOf, idAt}
-use Rattle.slots.specs.DoneLaws.{done-then, done-emit, done-quiet, done-as}
-use Rattle.slots.specs.StepLaws.{opened-closed, opened-kept}
+use Rattle.slots.specs.View.{SlotPool, poolOf}
 use Rattle.slots.specs.Parts.{id-at}
-use Rattle.slots.specs.Slots.{leavePending, closeAt, shelve}
+use Rattle.slots.specs.Slots.{leavePending}
+use Rattle.steps.specs.Exits.{ready-shut, ready-kept}
 use borrow.Author.Needs.{needs}
 use Rattle.steps.proofs.handle_connection_succeeded_for_pool.Statement.{statement}
 use Rattle.steps.proofs.handle_connection_succeeded_for_pool.Tie as tie
@@ -21,6 +16,10 @@ use Rattle.conditions.proofs.is_closed.Reads as is-closed-reads
 use Rattle.words.proofs.as_u64.Reads as as-u64-reads
 use Rattle.acts.proofs.shelve.Reads as shelve-reads
 use Rattle.table.proofs.emit.Reads as emit-reads
+
+-- the pool that the step is lent
+abbrev lent : tie.Start → SlotPool
+lent s = let a = s .args in poolOf (a .head) (now (a .numbers)) (now (a .times)) (now (a .states)) (now (a .waiters))
 
 mul-as-u64 : tie.Need-mul-as-u64
 mul-as-u64 c = search needs
@@ -52,33 +51,31 @@ same-length c = search needs
 returns : tie.Need-returns
 unfolding leavePending if_then_else_
 returns c =
-    let a = c .before .before .before .before .before .before .before .before .before .before .before .before .before .before .before .before .before .before .before .args in
-    let r = ConnectionReady (idAt (poolOf (a .head) (now (a .numbers)) (now (a .times)) (now (a .states)) (now (a .waiters))) (a .i)) in
-    let i = id-at (a .head) (now (a .numbers)) (now (a .times)) (now (a .states)) (now (a .waiters)) (a .i) (c .before .before .before .before .before .before .before .before .before .before .before .before .before .before .before .before .before .before .before .pre .1 .slot) in
-    done-as (opened-closed (poolOf (a .head) (now (a .numbers)) (now (a .times)) (now (a .states)) (now (a .waiters))) (a .i) (a .opened) (sym (c .before .before .before .before .before .before .before .before .before .is-closed .ensures) ∙ c .before .before .before .before .before .before .before .before .if1 .taken))
-    (done-then (emit r) (leavePending >> closeAt PoolClosed (a .i)) (poolOf (a .head) (now (a .numbers)) (now (a .times)) (now (a .states)) (now (a .waiters))) (poolOf (a .head) (now (a .numbers)) (now (a .times)) (now (a .states)) (now (a .waiters))) _
-    (done-emit r (poolOf (a .head) (now (a .numbers)) (now (a .times)) (now (a .states)) (now (a .waiters))) refl (rw (i, ← c .before .before .before .before .before .before .before .before .before .before .before .before .before .before .before .as-u64 .ensures) (c .before .before .before .before .before .before .before .before .before .before .before .before .before .before .emit .ensures)))
-    (done-then leavePending (closeAt PoolClosed (a .i)) (poolOf (a .head) (now (a .numbers)) (now (a .times)) (now (a .states)) (now (a .waiters))) _ _ (done-quiet (leavePending (poolOf (a .head) (now (a .numbers)) (now (a .times)) (now (a .states)) (now (a .waiters)))) refl refl) (c .before .before .close-connection .ensures)))
+    let start = c .before .before .before .before .before .before .before .before .before .before .before .before .before .before .before .before .before .before .before in
+    let a = start .args in
+    let id = id-at (a .head) (now (a .numbers)) (now (a .times)) (now (a .states)) (now (a .waiters)) (a .i) (start .pre .1 .slot) in
+    let closed = c .before .before .before .before .before .before .before .before in
+    let emitted = c .before .before .before .before .before .before .before .before .before .before .before .before .before .before in
+    ready-shut (lent start) (a .i) (emitted .before .as-u64 .ensures ∙ sym id) (emitted .emit .ensures) (a .opened) (closed .before .is-closed .ensures) (closed .if1 .taken) (c .before .before .close-connection .ensures)
 
 shelve-requires : tie.Need-shelve-requires
 shelve-requires c κs = search needs
 
 add-t21 : tie.Need-add-t21
-add-t21 c = omega (arith, c .before .before .before .before .before .before .before .before .before .before .before .before .before .before .before .before .pre .2 .1)
+add-t21 c = let start = c .before .before .before .before .before .before .before .before .before .before .before .before .before .before .before .before in omega (arith, start .pre .2 .1)
 
 same-length-2 : tie.Need-same-length-2
 same-length-2 c = search needs
 
 returns-2 : tie.Need-returns-2
-unfolding leavePending shelve
+unfolding leavePending
 returns-2 c =
-    let a = c .before .before .before .before .before .before .before .before .before .before .before .before .before .before .before .before .args in
-    let r = ConnectionReady (idAt (poolOf (a .head) (now (a .numbers)) (now (a .times)) (now (a .states)) (now (a .waiters))) (a .i)) in
-    let i = id-at (a .head) (now (a .numbers)) (now (a .times)) (now (a .states)) (now (a .waiters)) (a .i) (c .before .before .before .before .before .before .before .before .before .before .before .before .before .before .before .before .pre .1 .slot) in
-    done-as (opened-kept (poolOf (a .head) (now (a .numbers)) (now (a .times)) (now (a .states)) (now (a .waiters))) (a .i) (a .opened) (sym (c .before .before .before .before .before .before .is-closed .ensures) ∙ c .before .before .before .before .before .if1 .left))
-    (done-then (emit r) (leavePending >> shelve (a .i) (a .opened)) (poolOf (a .head) (now (a .numbers)) (now (a .times)) (now (a .states)) (now (a .waiters))) (poolOf (a .head) (now (a .numbers)) (now (a .times)) (now (a .states)) (now (a .waiters))) _
-    (done-emit r (poolOf (a .head) (now (a .numbers)) (now (a .times)) (now (a .states)) (now (a .waiters))) refl (rw (i, ← c .before .before .before .before .before .before .before .before .before .before .before .before .as-u64 .ensures) (c .before .before .before .before .before .before .before .before .before .before .before .emit .ensures)))
-    (done-then leavePending (shelve (a .i) (a .opened)) (poolOf (a .head) (now (a .numbers)) (now (a .times)) (now (a .states)) (now (a .waiters))) _ _ (done-quiet (leavePending (poolOf (a .head) (now (a .numbers)) (now (a .times)) (now (a .states)) (now (a .waiters)))) refl refl) (done-quiet _ refl (c .shelve .ensures))))
+    let start = c .before .before .before .before .before .before .before .before .before .before .before .before .before .before .before .before in
+    let a = start .args in
+    let id = id-at (a .head) (now (a .numbers)) (now (a .times)) (now (a .states)) (now (a .waiters)) (a .i) (start .pre .1 .slot) in
+    let going = c .before .before .before .before .before in
+    let emitted = c .before .before .before .before .before .before .before .before .before .before .before in
+    ready-kept (lent start) (a .i) (emitted .before .as-u64 .ensures ∙ sym id) (emitted .emit .ensures) (a .opened) (going .before .is-closed .ensures) (going .if1 .left) _ (c .shelve .ensures)
 
 pub handle-connection-succeeded-for-pool-spec : {M : Type 1} → statement M
 handle-connection-succeeded-for-pool-spec =

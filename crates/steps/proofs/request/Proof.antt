@@ -1,11 +1,7 @@
-use mathlib.Core.Path.{_≡_, refl, sym, ap, _∙_}
-use Prim.Native.Nat.{ℕ, _+_, _*_}
+use mathlib.Core.Path.{refl}
 use denote.Ref.{now}
-use lib.ListN.{set}
-use Rattle.definition.specs.Records.{Replied, Cleared}
-use Rattle.slots.specs.View.{poolOf, withLastRequest, withWaiters}
-use Rattle.slots.specs.DoneLaws.{done-emit, done-quiet, done-as}
-use Rattle.slots.specs.StepLaws.{request-new, request-paused, request-ready, request-closed}
+use Rattle.slots.specs.View.{SlotPool, poolOf}
+use Rattle.steps.specs.Exits.{asked-new, asked-paused, asked-ready, asked-closed}
 use borrow.Author.Needs.{needs}
 use Rattle.steps.proofs.request.Statement.{statement}
 use Rattle.steps.proofs.request.Tie as tie
@@ -14,6 +10,10 @@ use Rattle.steps.proofs.request.Lts as lts
 use Rattle.words.proofs.as_u64.Reads as as-u64-reads
 use Rattle.steps.proofs.mark.Reads as mark-reads
 use Rattle.table.proofs.emit.Reads as emit-reads
+
+-- the pool that the step is lent
+abbrev lent : tie.Start → SlotPool
+lent s = let a = s .args in poolOf (a .head) (now (a .numbers)) (now (a .times)) (now (a .states)) (now (a .waiters))
 
 enum-told : tie.Need-enum-told
 enum-told c = search needs
@@ -71,29 +71,30 @@ same-length c = search needs
 
 returns : tie.Need-returns
 returns c =
-    let a = c .before .before .before .before .before .before .before .before .before .args in
-    done-as (request-new (poolOf (a .head) (now (a .numbers)) (now (a .times)) (now (a .states)) (now (a .waiters))) (a .id) (a .warm) (c .before .before .before .before .before .enum-told .given .1))
-    (done-emit (Replied (a .id) (Cleared 0)) _ refl (rw (← c .before .before .before .as-u64 .ensures) (c .before .before .emit .ensures)))
+    let start = c .before .before .before .before .before .before .before .before .before in
+    let a = start .args in
+    asked-new (lent start) (a .id) (a .warm) (c .before .before .before .before .before .enum-told .given .1) (c .before .before .before .as-u64 .ensures) (c .before .before .emit .ensures)
 
 same-length-2 : tie.Need-same-length-2
 same-length-2 c = search needs
 
 returns-2 : tie.Need-returns-2
 returns-2 c =
-    let a = c .before .before .before .before .before .before .before .before .before .before .args in
-    done-as (request-paused (poolOf (a .head) (now (a .numbers)) (now (a .times)) (now (a .states)) (now (a .waiters))) (a .id) (a .warm) _ (c .before .before .before .before .before .before .st .given .1))
-    (done-emit (Replied (a .id) (Cleared _)) _ refl (rw (← c .before .before .before .as-u642 .ensures) (c .before .before .emit2 .ensures)))
+    let start = c .before .before .before .before .before .before .before .before .before .before in
+    let a = start .args in
+    let paused = c .before .before .before .before .before .before in
+    asked-paused (lent start) (a .id) (a .warm) _ (paused .st .given .1) (c .before .before .before .as-u642 .ensures) (c .before .before .emit2 .ensures)
 
 returns-3 : tie.Need-returns-3
 returns-3 c =
-    let a = c .before .before .before .before .before .before .args in
-    done-as (request-ready (poolOf (a .head) (now (a .numbers)) (now (a .times)) (now (a .states)) (now (a .waiters))) (a .id) (a .warm) (c .before .before .enum-told2 .given .1))
-    (done-quiet _ refl (rw (c .before .as-u643 .ensures, c .mark .ensures .0) refl))
+    let start = c .before .before .before .before .before .before in
+    let a = start .args in
+    asked-ready (lent start) (a .id) (a .warm) (c .before .before .enum-told2 .given .1) (c .before .as-u643 .ensures) (c .mark .ensures .0)
 
 returns-4 : tie.Need-returns-4
 returns-4 c =
     let a = c .before .before .before .before .args in
-    done-as (request-closed (poolOf (a .head) (now (a .numbers)) (now (a .times)) (now (a .states)) (now (a .waiters))) (a .id) (a .warm) (c .enum-told3 .given .1)) (done-quiet _ refl refl)
+    asked-closed (lent (c .before .before .before .before)) (a .id) (a .warm) (c .enum-told3 .given .1)
 
 pub request-spec : {M : Type 1} → statement M
 request-spec =

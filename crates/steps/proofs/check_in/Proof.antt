@@ -23,6 +23,22 @@ use Rattle.acts.proofs.shelve.Reads as shelve-reads
 abbrev lent : tie.Start → SlotPool
 lent s = let a = s .args in poolOf (a .head) (now (a .numbers)) (now (a .times)) (now (a .states)) (now (a .waiters))
 
+-- the pools that closing leaves, and shelving
+abbrev left : tie.After-close-connection → SlotPool
+left d = let k = d .close-connection in poolOf (k .result .head) (k .last .1 .0) (k .last .1 .1 .0) (k .last .1 .1 .1 .0) (k .last .1 .1 .1 .1 .0)
+
+abbrev left2 : tie.After-close-connection2 → SlotPool
+left2 d = let k = d .close-connection2 in poolOf (k .result .head) (k .last .1 .0) (k .last .1 .1 .0) (k .last .1 .1 .1 .0) (k .last .1 .1 .1 .1 .0)
+
+abbrev left3 : tie.After-close-connection3 → SlotPool
+left3 d = let k = d .close-connection3 in poolOf (k .result .head) (k .last .1 .0) (k .last .1 .1 .0) (k .last .1 .1 .1 .0) (k .last .1 .1 .1 .1 .0)
+
+abbrev left4 : tie.After-close-connection4 → SlotPool
+left4 d = let k = d .close-connection4 in poolOf (k .result .head) (k .last .1 .0) (k .last .1 .1 .0) (k .last .1 .1 .1 .0) (k .last .1 .1 .1 .1 .0)
+
+abbrev shelved : tie.After-shelve → SlotPool
+shelved d = let k = d .shelve in poolOf (k .result) (k .last .1 .0) (k .last .1 .1 .0) (k .last .1 .1 .1 .0) (k .last .1 .1 .1 .1 .0)
+
 -- once the record of the check-in is written
 abbrev start : tie.After-emit → tie.Start
 start d = d .before .before .before .before .before .before .before .before
@@ -59,7 +75,7 @@ returns c =
     let start = c .before .before .before .before .before .before .before .before .before .before .before .before in
     let a = start .args in
     let taken = c .before .before .before .before .before .before .before .before in
-    in-closed (lent start) (a .i) (a .errored) (a .executing) (a .let-go) (taken .before .is-closed .ensures) (taken .if1 .taken) (c .before .before .close-connection .ensures)
+    in-closed (lent start) (a .i) (a .errored) (a .executing) (a .let-go) {q = left (c .before .before)} (taken .before .is-closed .ensures) (taken .if1 .taken) (c .before .before .close-connection .ensures)
 
 mul-as-u64 : tie.Need-mul-as-u64
 mul-as-u64 c = search needs
@@ -88,7 +104,7 @@ returns-2 c =
     let taken = c .before .before .before .before .before .before .before .before in
     let emitted = taken .before .before .before in
     let a = start emitted .args in
-    in-errored (lent (start emitted)) (a .i) (a .errored) (a .executing) (a .let-go) (said emitted) (taken .if2 .taken) (c .before .before .close-connection2 .ensures)
+    in-errored (lent (start emitted)) (a .i) (a .errored) (a .executing) (a .let-go) {q = left2 (c .before .before)} (said emitted) (taken .if2 .taken) (c .before .before .close-connection2 .ensures)
 
 add-is-stale : tie.Need-add-is-stale
 add-is-stale c = search needs
@@ -116,7 +132,7 @@ unfolding if_then_else_
 returns-3 c =
     let taken = c .before .before .before .before .before .before .before .before in
     let a = start (emitted (taken .before)) .args in
-    in-stale (lent (start (emitted (taken .before)))) (a .i) (a .errored) (a .executing) (a .let-go) (said (emitted (taken .before))) (taken .before .before .before .if2 .left)
+    in-stale (lent (start (emitted (taken .before)))) (a .i) (a .errored) (a .executing) (a .let-go) {q = left3 (c .before .before)} (said (emitted (taken .before))) (taken .before .before .before .if2 .left)
     (stale (taken .before) (taken .if3 .taken)) (c .before .before .close-connection3 .ensures)
 
 add-close-connection-3 : tie.Need-add-close-connection-3
@@ -134,7 +150,7 @@ returns-4 c =
     let taken = c .before .before .before .before .before .before .before .before in
     let fresh = taken .before in
     let a = start (emitted (fresh .before)) .args in
-    in-executing (lent (start (emitted (fresh .before)))) (a .i) (a .errored) (a .executing) (a .let-go) (said (emitted (fresh .before))) (fresh .before .before .before .if2 .left)
+    in-executing (lent (start (emitted (fresh .before)))) (a .i) (a .errored) (a .executing) (a .let-go) {q = left4 (c .before .before)} (said (emitted (fresh .before))) (fresh .before .before .before .if2 .left)
     (stale (fresh .before) (fresh .if3 .left)) (taken .if4 .taken) (c .before .before .close-connection4 .ensures)
 
 shelve-requires : tie.Need-shelve-requires
@@ -153,7 +169,7 @@ returns-5 c =
     let kept = c .before .before .before .before .before in
     let fresh = kept .before in
     let a = start (emitted (fresh .before)) .args in
-    in-kept (lent (start (emitted (fresh .before)))) (a .i) (a .errored) (a .executing) (a .let-go) (said (emitted (fresh .before))) (fresh .before .before .before .if2 .left)
+    in-kept (lent (start (emitted (fresh .before)))) (a .i) (a .errored) (a .executing) (a .let-go) {q = shelved c} (said (emitted (fresh .before))) (fresh .before .before .before .if2 .left)
     (stale (fresh .before) (fresh .if3 .left)) (kept .if4 .left) (c .shelve .ensures)
 
 pub check-in-spec : {M : Type 1} → statement M

@@ -1,6 +1,7 @@
 use mathlib.Core.Path.{refl, sym, _∙_}
+use Prim.Native.Nat.{_-_}
 use denote.Ref.{now}
-use Rattle.slots.specs.View.{SlotPool, poolOf}
+use Rattle.slots.specs.View.{SlotPool, poolOf, withCounts}
 use Rattle.slots.specs.Parts.{id-at}
 use Rattle.slots.specs.Slots.{leavePending}
 use Rattle.steps.specs.Exits.{ready-lent}
@@ -16,6 +17,13 @@ use Rattle.table.proofs.emit.Reads as emit-reads
 -- the pool that the step is lent
 abbrev lent : tie.Start → SlotPool
 lent s = let a = s .args in poolOf (a .head) (now (a .numbers)) (now (a .times)) (now (a .states)) (now (a .waiters))
+
+-- and the one that it leaves
+abbrev left : tie.After-set-state → SlotPool
+left d =
+    let k = d .set-state in
+    let h = d .before .before .before .before .before .before .before .before .before .before .before .before .before .args .head in
+    withCounts (poolOf h (k .last .1 .0) (k .last .1 .1 .0) (k .last .1 .1 .1 .0) (k .last .1 .1 .1 .1 .0)) (h .«total_connection_count») (h .«pending_connection_count» - 1)
 
 mul-as-u64 : tie.Need-mul-as-u64
 mul-as-u64 c = search needs
@@ -45,9 +53,10 @@ returns : tie.Need-returns
 unfolding leavePending
 returns c =
     let start = c .before .before .before .before .before .before .before .before .before .before .before .before .before in
+    let emitted = c .before .before .before .before .before .before .before .before in
     let a = start .args in
     let id = id-at (a .head) (now (a .numbers)) (now (a .times)) (now (a .states)) (now (a .waiters)) (a .i) (start .pre .1 .slot) in
-    ready-lent (lent start) (a .i) (c .before .before .before .before .before .before .before .before .before .as-u64 .ensures ∙ sym id) (c .before .before .before .before .before .before .before .before .emit .ensures) _ (c .set-state .ensures)
+    ready-lent (lent start) (a .i) (emitted .before .as-u64 .ensures ∙ sym id) (emitted .emit .ensures) (left c) (c .set-state .ensures)
 
 pub handle-connection-succeeded-spec : {M : Type 1} → statement M
 handle-connection-succeeded-spec =

@@ -21,6 +21,13 @@ use Rattle.table.proofs.emit.Reads as emit-reads
 abbrev lent : tie.Start → SlotPool
 lent s = let a = s .args in poolOf (a .head) (now (a .numbers)) (now (a .times)) (now (a .states)) (now (a .waiters))
 
+-- and those that closing leaves, and shelving
+abbrev left : tie.After-close-connection → SlotPool
+left d = let k = d .close-connection in poolOf (k .result .head) (k .last .1 .0) (k .last .1 .1 .0) (k .last .1 .1 .1 .0) (k .last .1 .1 .1 .1 .0)
+
+abbrev shelved : tie.After-shelve → SlotPool
+shelved d = let k = d .shelve in poolOf (k .result) (k .last .1 .0) (k .last .1 .1 .0) (k .last .1 .1 .1 .0) (k .last .1 .1 .1 .1 .0)
+
 mul-as-u64 : tie.Need-mul-as-u64
 mul-as-u64 c = search needs
 
@@ -56,7 +63,7 @@ returns c =
     let id = id-at (a .head) (now (a .numbers)) (now (a .times)) (now (a .states)) (now (a .waiters)) (a .i) (start .pre .1 .slot) in
     let closed = c .before .before .before .before .before .before .before .before in
     let emitted = c .before .before .before .before .before .before .before .before .before .before .before .before .before .before in
-    ready-shut (lent start) (a .i) (emitted .before .as-u64 .ensures ∙ sym id) (emitted .emit .ensures) (a .opened) (closed .before .is-closed .ensures) (closed .if1 .taken) (c .before .before .close-connection .ensures)
+    ready-shut (lent start) (a .i) (emitted .before .as-u64 .ensures ∙ sym id) (emitted .emit .ensures) (a .opened) (closed .before .is-closed .ensures) (closed .if1 .taken) {q = left (c .before .before)} (c .before .before .close-connection .ensures)
 
 shelve-requires : tie.Need-shelve-requires
 shelve-requires c κs = search needs
@@ -75,7 +82,7 @@ returns-2 c =
     let id = id-at (a .head) (now (a .numbers)) (now (a .times)) (now (a .states)) (now (a .waiters)) (a .i) (start .pre .1 .slot) in
     let going = c .before .before .before .before .before in
     let emitted = c .before .before .before .before .before .before .before .before .before .before .before in
-    ready-kept (lent start) (a .i) (emitted .before .as-u64 .ensures ∙ sym id) (emitted .emit .ensures) (a .opened) (going .before .is-closed .ensures) (going .if1 .left) _ (c .shelve .ensures)
+    ready-kept (lent start) (a .i) (emitted .before .as-u64 .ensures ∙ sym id) (emitted .emit .ensures) (a .opened) (going .before .is-closed .ensures) (going .if1 .left) (shelved c) (c .shelve .ensures)
 
 pub handle-connection-succeeded-for-pool-spec : {M : Type 1} → statement M
 handle-connection-succeeded-for-pool-spec =

@@ -1,3 +1,4 @@
+pub mod Promise
 pub mod Table
 pub mod Agree
 pub mod Mirror

@@ -33,12 +33,12 @@ pub fn find(numbers: &Numbers, id: u32) -> usize
 pub fn find_vacant(numbers: &Numbers) -> usize
     ensures { λ r. ⌜ r ≡ vacantSlot (idsIn (now (numbers .entry))) ⌝ }
 {
-    let mut i: usize = 0;
-    while i < SLOTS {
-        if numbers[i] == 0 {
-            return i;
+    let mut k: usize = 0;
+    while k < SLOTS {
+        if numbers[k] == 0 {
+            return k;
         }
-        i += 1;
+        k += 1;
     }
     SLOTS
 }

@@ -9,10 +9,10 @@ use Rattle.table.proofs.find_vacant.Statement.{statement}
 use Rattle.table.proofs.find_vacant.Tie as tie
 
 abbrev Inv-loop : tie.InvT-loop
-Inv-loop numbers i₀ i = Searching (λ v. v) 0 slotCount numbers i
+Inv-loop numbers k₀ k = Searching (λ v. v) 0 slotCount numbers k
 
 abbrev μ-loop : tie.MeasureT-loop
-μ-loop numbers i₀ i = slotCount - i
+μ-loop numbers k₀ k = slotCount - k
 
 loop-holds : tie.Need-loop-holds Inv-loop μ-loop
 loop-holds c = searching-start _ _ _ _
@@ -26,8 +26,8 @@ element-copy-out-if1 c = search needs
 returns : tie.Need-returns Inv-loop μ-loop
 returns c = searching-hit (c .before .before .before .loop .inv) (omega arith) (c .if1 .taken) ∙ sym (vacant-in _)
 
-add-i : tie.Need-add-i Inv-loop μ-loop
-add-i c = search needs
+add-k : tie.Need-add-k Inv-loop μ-loop
+add-k c = search needs
 
 loop-less : tie.Need-loop-less Inv-loop μ-loop
 loop-less c = search needs
@@ -48,7 +48,7 @@ find-vacant-spec =
     mul-if1
     element-copy-out-if1
     returns
-    add-i
+    add-k
     loop-less
     loop-again
     returns-2)

@@ -75,8 +75,23 @@ pub record Pool : Type 0 where
   pub pending : List Conn
   pub waiting : List Waiter
 
+abbrev pub poolWith : Options → PoolState → (generation nextId clock lastRequest written : ℕ) → (available lent pending : List Conn) → List Waiter → Pool
+poolWith o s g n c r w available lent pending waiting = record {
+  options = o;
+  state = s;
+  generation = g;
+  nextId = n;
+  clock = c;
+  lastRequest = r;
+  written = w;
+  available = available;
+  lent = lent;
+  pending = pending;
+  waiting = waiting;
+}
+
 abbrev pub fresh : Options → Pool
-fresh o = record { options = o; state = New; generation = 0; nextId = 1; clock = 0; lastRequest = 0; written = 0; available = []; lent = []; pending = []; waiting = [] }
+fresh o = poolWith o New 0 1 0 0 0 [] [] [] []
 
 -- a new connection: it takes the next id and the current generation
 abbrev pub newConn : Pool → Purpose → Conn
@@ -85,31 +100,31 @@ newConn p why = record { id = p .nextId; generation = p .generation; time = p .c
 -- the pool with another value in one place
 module _ (p : Pool) where
   abbrev pub withStatus : PoolState → ℕ → Pool
-  withStatus s g = record { options = p .options; state = s; generation = g; nextId = p .nextId; clock = p .clock; lastRequest = p .lastRequest; written = p .written; available = p .available; lent = p .lent; pending = p .pending; waiting = p .waiting }
+  withStatus s g = poolWith (p .options) s g (p .nextId) (p .clock) (p .lastRequest) (p .written) (p .available) (p .lent) (p .pending) (p .waiting)
 
   abbrev pub withNextId : ℕ → Pool
-  withNextId n = record { options = p .options; state = p .state; generation = p .generation; nextId = n; clock = p .clock; lastRequest = p .lastRequest; written = p .written; available = p .available; lent = p .lent; pending = p .pending; waiting = p .waiting }
+  withNextId n = poolWith (p .options) (p .state) (p .generation) n (p .clock) (p .lastRequest) (p .written) (p .available) (p .lent) (p .pending) (p .waiting)
 
   abbrev pub withClock : ℕ → Pool
-  withClock t = record { options = p .options; state = p .state; generation = p .generation; nextId = p .nextId; clock = t; lastRequest = p .lastRequest; written = p .written; available = p .available; lent = p .lent; pending = p .pending; waiting = p .waiting }
+  withClock t = poolWith (p .options) (p .state) (p .generation) (p .nextId) t (p .lastRequest) (p .written) (p .available) (p .lent) (p .pending) (p .waiting)
 
   abbrev pub withLastRequest : ℕ → Pool
-  withLastRequest r = record { options = p .options; state = p .state; generation = p .generation; nextId = p .nextId; clock = p .clock; lastRequest = r; written = p .written; available = p .available; lent = p .lent; pending = p .pending; waiting = p .waiting }
+  withLastRequest r = poolWith (p .options) (p .state) (p .generation) (p .nextId) (p .clock) r (p .written) (p .available) (p .lent) (p .pending) (p .waiting)
 
   abbrev pub withWritten : ℕ → Pool
-  withWritten n = record { options = p .options; state = p .state; generation = p .generation; nextId = p .nextId; clock = p .clock; lastRequest = p .lastRequest; written = n; available = p .available; lent = p .lent; pending = p .pending; waiting = p .waiting }
+  withWritten n = poolWith (p .options) (p .state) (p .generation) (p .nextId) (p .clock) (p .lastRequest) n (p .available) (p .lent) (p .pending) (p .waiting)
 
   abbrev pub withAvailable : List Conn → Pool
-  withAvailable l = record { options = p .options; state = p .state; generation = p .generation; nextId = p .nextId; clock = p .clock; lastRequest = p .lastRequest; written = p .written; available = l; lent = p .lent; pending = p .pending; waiting = p .waiting }
+  withAvailable l = poolWith (p .options) (p .state) (p .generation) (p .nextId) (p .clock) (p .lastRequest) (p .written) l (p .lent) (p .pending) (p .waiting)
 
   abbrev pub withLent : List Conn → Pool
-  withLent l = record { options = p .options; state = p .state; generation = p .generation; nextId = p .nextId; clock = p .clock; lastRequest = p .lastRequest; written = p .written; available = p .available; lent = l; pending = p .pending; waiting = p .waiting }
+  withLent l = poolWith (p .options) (p .state) (p .generation) (p .nextId) (p .clock) (p .lastRequest) (p .written) (p .available) l (p .pending) (p .waiting)
 
   abbrev pub withPending : List Conn → Pool
-  withPending l = record { options = p .options; state = p .state; generation = p .generation; nextId = p .nextId; clock = p .clock; lastRequest = p .lastRequest; written = p .written; available = p .available; lent = p .lent; pending = l; waiting = p .waiting }
+  withPending l = poolWith (p .options) (p .state) (p .generation) (p .nextId) (p .clock) (p .lastRequest) (p .written) (p .available) (p .lent) l (p .waiting)
 
   abbrev pub withWaiting : List Waiter → Pool
-  withWaiting l = record { options = p .options; state = p .state; generation = p .generation; nextId = p .nextId; clock = p .clock; lastRequest = p .lastRequest; written = p .written; available = p .available; lent = p .lent; pending = p .pending; waiting = l }
+  withWaiting l = poolWith (p .options) (p .state) (p .generation) (p .nextId) (p .clock) (p .lastRequest) (p .written) (p .available) (p .lent) (p .pending) l
 
 -- ── Tests ──────────────────────────────────────────────────────────────────────────────────────────────────────────────
 

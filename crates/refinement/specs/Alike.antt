@@ -12,7 +12,7 @@ use Rattle.definition.specs.declared.Options.{Options}
 use Rattle.definition.specs.declared.PoolState.{PoolState}
 use Rattle.definition.specs.declared.PoolState.the-variants.{New}
 use Rattle.slots.specs.View as View
-use Rattle.slots.specs.View.{SlotPool, Slot, vacant, waiterOf, poolOf}
+use Rattle.slots.specs.View.{SlotPool, Slot, slotPool, vacant, waiterOf}
 use Rattle.slots.specs.Slots as S
 use Rattle.slots.specs.declared.Head.{Head}
 
@@ -92,23 +92,7 @@ module _ {p : SlotPool} {m : Pool} (a : Alike p m) where
 
 -- a fresh pool: all columns are 0
 abbrev pub freshSlots : Options → SlotPool
-freshSlots o = record {
-  options = o;
-  state = New;
-  generation = 0;
-  nextId = 1;
-  clock = 0;
-  lastRequest = 0;
-  serial = 0;
-  total = 0;
-  pendings = 0;
-  availables = 0;
-  waitings = 0;
-  ids = replicate slotCount 0;
-  slots = replicate slotCount vacant;
-  available = replicate slotCount 0;
-  waiters = replicate queueLength 0;
-}
+freshSlots o = slotPool o New 0 1 0 0 0 0 0 0 0 (replicate slotCount 0) (replicate slotCount vacant) (replicate slotCount 0) (replicate queueLength 0)
 
 -- the parts of a made pool make it
 abbrev pub freshHead : Options → Head
@@ -130,19 +114,7 @@ alike-fresh o l q = record { options = refl; state = refl; generation = refl; ne
 
 -- the pool on lists that has these connections, and all else as a pool on slots has it
 abbrev pub listsWith : SlotPool → (available lent pending : List Conn) → Pool
-listsWith p av le pe = record {
-  options = p .options;
-  state = p .state;
-  generation = p .generation;
-  nextId = p .nextId;
-  clock = p .clock;
-  lastRequest = p .lastRequest;
-  written = p .serial;
-  available = av;
-  lent = le;
-  pending = pe;
-  waiting = S.waitersOf p;
-}
+listsWith p av le pe = P.poolWith (p .options) (p .state) (p .generation) (p .nextId) (p .clock) (p .lastRequest) (p .serial) av le pe (S.waitersOf p)
 
 pub alike-lists : (p : SlotPool) (av le pe : List Conn) → p .serial < 4294967296 → Limits (p .options) → Queue (p .waiters) (p .waitings) (p .lastRequest) (S.waitersOf p) → Alike p (listsWith p av le pe)
 alike-lists p av le pe h l q = record { options = refl; state = refl; generation = refl; nextId = refl; clock = refl; lastRequest = refl; serial = sym (mod-eq-of-lt h); limits = l; queue = q }

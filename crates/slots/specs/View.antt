@@ -70,54 +70,60 @@ pub record SlotPool : Type 0 where
   pub available : List ℕ
   pub waiters : List ℕ
 
--- waiters: four times the id, and 1 if warm, 2 if abandoned
-abbrev pub poolOf : Head → (numbers times states waiters : List ℕ) → SlotPool
-poolOf h numbers times states waiters = record {
-  options = h .options;
-  state = h .status .state;
-  generation = h .status .generation;
-  nextId = h .«next_connection_id»;
-  clock = h .clock;
-  lastRequest = h .«last_request»;
-  serial = h .serial;
-  total = h .«total_connection_count»;
-  pendings = h .«pending_connection_count»;
-  availables = h .«available_count»;
-  waitings = h .«waiting_count»;
-  ids = idsIn numbers;
-  slots = slotsOf numbers times states;
-  available = orderIn states;
+abbrev pub slotPool : Options → PoolState → (generation nextId clock lastRequest serial total pendings availables waitings : ℕ) → List ℕ → List Slot → List ℕ → List ℕ → SlotPool
+slotPool o s g n c r e t q a w ids slots available waiters = record {
+  options = o;
+  state = s;
+  generation = g;
+  nextId = n;
+  clock = c;
+  lastRequest = r;
+  serial = e;
+  total = t;
+  pendings = q;
+  availables = a;
+  waitings = w;
+  ids = ids;
+  slots = slots;
+  available = available;
   waiters = waiters;
 }
+
+-- the pool that the parts make; waiters: four times the id, and 1 if warm, 2 if abandoned
+abbrev pub poolOf : Head → (numbers times states waiters : List ℕ) → SlotPool
+poolOf h numbers times states waiters =
+    slotPool (h .options) (h .status .state) (h .status .generation) (h .«next_connection_id») (h .clock) (h .«last_request») (h .serial)
+    (h .«total_connection_count») (h .«pending_connection_count») (h .«available_count») (h .«waiting_count»)
+    (idsIn numbers) (slotsOf numbers times states) (orderIn states) waiters
 
 -- the pool with other values in some places
 module _ (p : SlotPool) where
   abbrev pub withTable : List ℕ → List Slot → SlotPool
-  withTable i s = record { options = p .options; state = p .state; generation = p .generation; nextId = p .nextId; clock = p .clock; lastRequest = p .lastRequest; serial = p .serial; total = p .total; pendings = p .pendings; availables = p .availables; waitings = p .waitings; ids = i; slots = s; available = p .available; waiters = p .waiters }
+  withTable i s = slotPool (p .options) (p .state) (p .generation) (p .nextId) (p .clock) (p .lastRequest) (p .serial) (p .total) (p .pendings) (p .availables) (p .waitings) i s (p .available) (p .waiters)
 
   abbrev pub withCounts : ℕ → ℕ → SlotPool
-  withCounts t c = record { options = p .options; state = p .state; generation = p .generation; nextId = p .nextId; clock = p .clock; lastRequest = p .lastRequest; serial = p .serial; total = t; pendings = c; availables = p .availables; waitings = p .waitings; ids = p .ids; slots = p .slots; available = p .available; waiters = p .waiters }
+  withCounts t c = slotPool (p .options) (p .state) (p .generation) (p .nextId) (p .clock) (p .lastRequest) (p .serial) t c (p .availables) (p .waitings) (p .ids) (p .slots) (p .available) (p .waiters)
 
   abbrev pub withNextId : ℕ → SlotPool
-  withNextId n = record { options = p .options; state = p .state; generation = p .generation; nextId = n; clock = p .clock; lastRequest = p .lastRequest; serial = p .serial; total = p .total; pendings = p .pendings; availables = p .availables; waitings = p .waitings; ids = p .ids; slots = p .slots; available = p .available; waiters = p .waiters }
+  withNextId n = slotPool (p .options) (p .state) (p .generation) n (p .clock) (p .lastRequest) (p .serial) (p .total) (p .pendings) (p .availables) (p .waitings) (p .ids) (p .slots) (p .available) (p .waiters)
 
   abbrev pub withAvailable : List ℕ → ℕ → SlotPool
-  withAvailable a n = record { options = p .options; state = p .state; generation = p .generation; nextId = p .nextId; clock = p .clock; lastRequest = p .lastRequest; serial = p .serial; total = p .total; pendings = p .pendings; availables = n; waitings = p .waitings; ids = p .ids; slots = p .slots; available = a; waiters = p .waiters }
+  withAvailable a n = slotPool (p .options) (p .state) (p .generation) (p .nextId) (p .clock) (p .lastRequest) (p .serial) (p .total) (p .pendings) n (p .waitings) (p .ids) (p .slots) a (p .waiters)
 
   abbrev pub withWaiters : List ℕ → ℕ → SlotPool
-  withWaiters w n = record { options = p .options; state = p .state; generation = p .generation; nextId = p .nextId; clock = p .clock; lastRequest = p .lastRequest; serial = p .serial; total = p .total; pendings = p .pendings; availables = p .availables; waitings = n; ids = p .ids; slots = p .slots; available = p .available; waiters = w }
+  withWaiters w n = slotPool (p .options) (p .state) (p .generation) (p .nextId) (p .clock) (p .lastRequest) (p .serial) (p .total) (p .pendings) (p .availables) n (p .ids) (p .slots) (p .available) w
 
   abbrev pub withStatus : PoolState → ℕ → SlotPool
-  withStatus s g = record { options = p .options; state = s; generation = g; nextId = p .nextId; clock = p .clock; lastRequest = p .lastRequest; serial = p .serial; total = p .total; pendings = p .pendings; availables = p .availables; waitings = p .waitings; ids = p .ids; slots = p .slots; available = p .available; waiters = p .waiters }
+  withStatus s g = slotPool (p .options) s g (p .nextId) (p .clock) (p .lastRequest) (p .serial) (p .total) (p .pendings) (p .availables) (p .waitings) (p .ids) (p .slots) (p .available) (p .waiters)
 
   abbrev pub withClock : ℕ → SlotPool
-  withClock t = record { options = p .options; state = p .state; generation = p .generation; nextId = p .nextId; clock = t; lastRequest = p .lastRequest; serial = p .serial; total = p .total; pendings = p .pendings; availables = p .availables; waitings = p .waitings; ids = p .ids; slots = p .slots; available = p .available; waiters = p .waiters }
+  withClock t = slotPool (p .options) (p .state) (p .generation) (p .nextId) t (p .lastRequest) (p .serial) (p .total) (p .pendings) (p .availables) (p .waitings) (p .ids) (p .slots) (p .available) (p .waiters)
 
   abbrev pub withLastRequest : ℕ → SlotPool
-  withLastRequest r = record { options = p .options; state = p .state; generation = p .generation; nextId = p .nextId; clock = p .clock; lastRequest = r; serial = p .serial; total = p .total; pendings = p .pendings; availables = p .availables; waitings = p .waitings; ids = p .ids; slots = p .slots; available = p .available; waiters = p .waiters }
+  withLastRequest r = slotPool (p .options) (p .state) (p .generation) (p .nextId) (p .clock) r (p .serial) (p .total) (p .pendings) (p .availables) (p .waitings) (p .ids) (p .slots) (p .available) (p .waiters)
 
   abbrev pub withSerial : ℕ → SlotPool
-  withSerial s = record { options = p .options; state = p .state; generation = p .generation; nextId = p .nextId; clock = p .clock; lastRequest = p .lastRequest; serial = s; total = p .total; pendings = p .pendings; availables = p .availables; waitings = p .waitings; ids = p .ids; slots = p .slots; available = p .available; waiters = p .waiters }
+  withSerial s = slotPool (p .options) (p .state) (p .generation) (p .nextId) (p .clock) (p .lastRequest) s (p .total) (p .pendings) (p .availables) (p .waitings) (p .ids) (p .slots) (p .available) (p .waiters)
 
   -- what slot i holds
   abbrev pub idAt : ℕ → ℕ

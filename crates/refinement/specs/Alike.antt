@@ -59,7 +59,17 @@ module _ {p : SlotPool} {m : Pool} (a : Alike p m) where
   -- a new one, which takes an id
   pub alike-created : {xs : List ℕ} {ss : List Slot} {t c : ℕ} {pe : List Conn}
       → Alike (View.withCounts (View.withNextId (View.withTable p xs ss) (p .nextId + 1)) t c) (P.withNextId (P.withPending m pe) (m .nextId + 1))
-  alike-created = record { options = a .options; state = a .state; generation = a .generation; nextId = ap (λ (n : ℕ). n + 1) (a .nextId); clock = a .clock; lastRequest = a .lastRequest; serial = a .serial; limits = a .limits; queue = a .queue }
+  alike-created = record {
+    options = a .options;
+    state = a .state;
+    generation = a .generation;
+    nextId = ap (λ (n : ℕ). n + 1) (a .nextId);
+    clock = a .clock;
+    lastRequest = a .lastRequest;
+    serial = a .serial;
+    limits = a .limits;
+    queue = a .queue;
+  }
 
   pub alike-status : (s : PoolState) (g g' : ℕ) → g ≡ g' → Alike (View.withStatus p s g) (P.withStatus m s g')
   alike-status s g g' e = record { options = a .options; state = refl; generation = e; nextId = a .nextId; clock = a .clock; lastRequest = a .lastRequest; serial = a .serial; limits = a .limits; queue = a .queue }

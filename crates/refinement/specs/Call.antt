@@ -70,10 +70,11 @@ pub takes : (p : SlotPool) (m : Pool) (l : List ℕ) (e : Event) (now : ℕ) →
     → Takes p l (C.accepted p l (S.event e (target p e) (View.withClock p now))) (counted (D.event e (P.withClock m now)))
 takes p m l e now st f =
     let o = S.event e (target p e) (View.withClock p now) in
+    let o' = D.event e (P.withClock m now) .pool in
     let s = event-same e (target p e) (View.withClock p now) (P.withClock m now) (clock-stands now st) (fit-clock now p (target p e) e f) in
     let kept : o .pool .serial ≡ p .serial = event-leaves e (target p e) (View.withClock p now) .serial in
     record {
-      pool = subst (λ (rs : List Record). Stands (View.withSerial (o .pool) (serialOf (p .serial + length (o .records)))) (P.withWritten (D.event e (P.withClock m now) .pool) (D.event e (P.withClock m now) .pool .written + length rs))) (s .records)
+      pool = subst (λ (rs : List Record). Stands (View.withSerial (o .pool) (serialOf (p .serial + length (o .records)))) (P.withWritten o' (o' .written + length rs))) (s .records)
           (counted-stands (p .serial) (length (o .records)) (s .stands) kept);
       out = ap (λ (rs : List Record). lay (p .serial) 0 rs l) (s .records);
       outcome = ap (λ (rs : List Record). Accepted (length rs)) (s .records);

@@ -83,7 +83,8 @@ unfolding S.markAsReady D.markAsReady
 markAsReady-same p m st =
     same-if _ _ _ _ p m (ap isReady (st .alike .state))
     (λ _. same-nothing st)
-    (λ _. same-then (emit PoolReady) (S.enter Ready (p .generation)) (emit PoolReady) (D.enter Ready (m .generation)) p m (same-emit PoolReady PoolReady p m refl st) (enter-same Ready (p .generation) (m .generation) p m (st .alike .generation) st))
+    (λ _. same-then (emit PoolReady) (S.enter Ready (p .generation)) (emit PoolReady) (D.enter Ready (m .generation)) p m (same-emit PoolReady PoolReady p m refl st)
+    (enter-same Ready (p .generation) (m .generation) p m (st .alike .generation) st))
 
 -- ── One connection ─────────────────────────────────────────────────────────────────────────────────────────────────────
 

@@ -170,7 +170,31 @@ module _ {xs : List ℕ} {ss : List Slot} {o : List ℕ} {next : ℕ} {av le pe 
 
 -- the front leaves the order list, or the back
 pub mirror-front : {xs : List ℕ} {ss : List Slot} {e : ℕ} {o : List ℕ} {next : ℕ} {av le pe : List Conn} → Mirror xs ss (e ∷ o) next av le pe → Mirror xs ss o next (view xs ss o) le pe
-mirror-front k = record { longIds = k .longIds; longSlots = k .longSlots; unique = k .unique; below = k .below; blank = k .blank; used = k .used; listed = k .listed .1; distinct = k .distinct .1; available = refl; lent = k .lent; pending = k .pending }
+mirror-front k = record {
+  longIds = k .longIds;
+  longSlots = k .longSlots;
+  unique = k .unique;
+  below = k .below;
+  blank = k .blank;
+  used = k .used;
+  listed = k .listed .1;
+  distinct = k .distinct .1;
+  available = refl;
+  lent = k .lent;
+  pending = k .pending;
+}
 
 pub mirror-back : {xs : List ℕ} {ss : List Slot} (e : ℕ) (o : List ℕ) {next : ℕ} {av le pe : List Conn} → Mirror xs ss (o ++ e ∷ []) next av le pe → Mirror xs ss o next (view xs ss o) le pe
-mirror-back e o k = record { longIds = k .longIds; longSlots = k .longSlots; unique = k .unique; below = k .below; blank = k .blank; used = k .used; listed = all-init _ o e (k .listed); distinct = distinct-init o e (k .distinct); available = refl; lent = k .lent; pending = k .pending }
+mirror-back e o k = record {
+  longIds = k .longIds;
+  longSlots = k .longSlots;
+  unique = k .unique;
+  below = k .below;
+  blank = k .blank;
+  used = k .used;
+  listed = all-init _ o e (k .listed);
+  distinct = distinct-init o e (k .distinct);
+  available = refl;
+  lent = k .lent;
+  pending = k .pending;
+}

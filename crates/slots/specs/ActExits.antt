@@ -32,7 +32,8 @@ module _ (h : Head) (ns ts ss ws : List ℕ) {s n : ℕ} {l k : List ℕ} where
   pub created-done : (i state x : ℕ) → i ≡ vacantSlot (idsIn ns) → i < slotCount → x ≡ h .«next_connection_id»
       → k ≡ laid l (16 * n) (recordBytes (serialOf (s + n)) (fields 1 0 x 0))
       → (q : SlotPool)
-      → q ≡ withCounts (withNextId (poolOf h (set (set ns i (h .«next_connection_id»)) (slotCount + i) (h .status .generation)) (set ts i (h .clock)) (set ss i state) ws) (h .«next_connection_id» + 1)) (h .«total_connection_count» + 1) (h .«pending_connection_count» + 1)
+      → q ≡ withCounts (withNextId (poolOf h (set (set ns i (h .«next_connection_id»)) (slotCount + i) (h .status .generation)) (set ts i (h .clock)) (set ss i state) ws) (h .«next_connection_id» + 1))
+      (h .«total_connection_count» + 1) (h .«pending_connection_count» + 1)
       → Done (createPendingConnection state (poolOf h ns ts ss ws)) s n l q (n + 1) k
   unfolding createPendingConnection lay _>>_
   created-done i state x e low id o q eq = record {

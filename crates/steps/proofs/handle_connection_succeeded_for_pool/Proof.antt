@@ -63,7 +63,8 @@ returns c =
     let id = id-at (a .head) (now (a .numbers)) (now (a .times)) (now (a .states)) (now (a .waiters)) (a .i) (start .pre .1 .slot) in
     let closed = c .before .before .before .before .before .before .before .before in
     let emitted = c .before .before .before .before .before .before .before .before .before .before .before .before .before .before in
-    ready-shut (lent start) (a .i) (emitted .before .as-u64 .ensures ∙ sym id) (emitted .emit .ensures) (a .opened) (closed .before .is-closed .ensures) (closed .if1 .taken) {q = left (c .before .before)} (c .before .before .close-connection .ensures)
+    ready-shut (lent start) (a .i) (emitted .before .as-u64 .ensures ∙ sym id) (emitted .emit .ensures) (a .opened) (closed .before .is-closed .ensures) (closed .if1 .taken) {q = left (c .before .before)}
+    (c .before .before .close-connection .ensures)
 
 shelve-requires : tie.Need-shelve-requires
 shelve-requires c κs = search needs

@@ -8,9 +8,9 @@ ghost use Rattle.slots.specs.Codes.{replyOf, IsReply};
 ghost use Rattle.slots.specs.Needs.{CanPrune, CanFill, CanTell};
 ghost use Rattle.slots.specs.Slots.{removePerished, ensureMinConnections, tellAll, closeFront};
 use acts::Progress;
-use slots::Numbers;
 use slots::Head;
-use definition::SLOTS;
+use slots::Numbers;
+use slots::ORDER;
 use slots::States;
 use slots::Times;
 use slots::Waiters;
@@ -65,10 +65,9 @@ pub fn remove_perished_connections(
     let mut count = n;
     let mut k = head.available_count;
     while 0 < k {
-        let i = words::as_index(states[SLOTS]);
-        let m = h.status;
-        let o = h.options;
-        let r = conditions::perished(m.generation, o.idle, h.clock, numbers[SLOTS + i], times[i]);
+        let front = conditions::examine(h, numbers, times, states, 0);
+        let i = front.slot;
+        let r = front.reason;
         if r == 0 {
             return Progress {
                 head: h,
@@ -76,7 +75,7 @@ pub fn remove_perished_connections(
             };
         }
         h = acts::pop_front(h, numbers, times, states, waiters);
-        let c = acts::close_connection(h, numbers, times, states, waiters, out, count, i, r);
+        let c = acts::close_connection(h, numbers, times, states, waiters, out, count, i, r, 0);
         h = c.head;
         count = c.count;
         k = k - 1;
@@ -145,9 +144,9 @@ pub fn close_available(
     let mut count = n;
     let mut k = head.available_count;
     while 0 < k {
-        let i = words::as_index(states[SLOTS]);
+        let i = words::as_index(states[ORDER]);
         h = acts::pop_front(h, numbers, times, states, waiters);
-        let c = acts::close_connection(h, numbers, times, states, waiters, out, count, i, 5);
+        let c = acts::close_connection(h, numbers, times, states, waiters, out, count, i, 5, 0);
         h = c.head;
         count = c.count;
         k = k - 1;

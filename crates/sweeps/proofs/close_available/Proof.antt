@@ -1,34 +1,52 @@
-use mathlib.Core.Path.{_≡_, sym, _∙_}
+use mathlib.Core.Path.{_≡_, refl, sym, _∙_}
 use native.Mathlib.Omega.{arith}
+use denote.Ref.{now}
 use lib.ListN.{getD}
 use Rattle.definition.specs.Words.{if_then_else_}
-use Rattle.definition.specs.declared.ClosedReason.the-variants.{PoolClosed}
 use Rattle.slots.specs.View.{SlotPool, poolOf}
-use Rattle.slots.specs.DoneLaws.{underway-done}
 use Rattle.slots.specs.Parts.{available-at}
 use Rattle.slots.specs.Slots.{closeFront}
-use Rattle.sweeps.proofs.Laws.{Sweeping, sweep-start, sweep-room, sweep-turn, close-goes}
+use Rattle.sweeps.specs.Sweeping.{Sweeping, sweep-start, front-leaves, front-closes, front-turns, closed-all}
 use borrow.Author.Needs.{needs}
 use Rattle.sweeps.proofs.close_available.Statement.{statement}
 use Rattle.sweeps.proofs.close_available.Tie as tie
 
 abbrev Inv-loop : tie.InvT-loop
-Inv-loop cells₀ times₀ seats₀ waiters₀ out₀ n h₀ count₀ k₀ numbers times states waiters out h count k = Sweeping closeFront (h₀ .serial) k₀ count₀ (poolOf h₀ cells₀ times₀ seats₀ waiters₀) out₀ k count (poolOf h numbers times states waiters) out
+Inv-loop numbers₀ times₀ states₀ waiters₀ out₀ n h₀ count₀ k₀ numbers times states waiters out h count k =
+    Sweeping closeFront (closeFront k₀ (poolOf h₀ numbers₀ times₀ states₀ waiters₀)) (h₀ .serial) count₀ out₀ k count (poolOf h numbers times states waiters) out
 
 abbrev μ-loop : tie.MeasureT-loop
-μ-loop cells₀ times₀ seats₀ waiters₀ out₀ n h₀ count₀ k₀ numbers times states waiters out h count k = k
+μ-loop numbers₀ times₀ states₀ waiters₀ out₀ n h₀ count₀ k₀ numbers times states waiters out h count k = k
 
--- the pool that the parts make as a turn starts
+-- the pool that the function is lent
+abbrev lent : tie.Start Inv-loop μ-loop → SlotPool
+lent s = let a = s .args in poolOf (a .head) (now (a .numbers)) (now (a .times)) (now (a .states)) (now (a .waiters))
+
+-- places of a turn: where the front was read, seen from where it has left; and that, from where it is closed
+abbrev read : tie.After-pop-front Inv-loop μ-loop → tie.After-as-index Inv-loop μ-loop
+read d = d .before .before .before .before .before
+
+abbrev gone : tie.After-close-connection Inv-loop μ-loop → tie.After-pop-front Inv-loop μ-loop
+gone d = d .before .before .before .before .before .before
+
+-- the pool that the front has left, and the one in which it is closed
+abbrev popped : tie.After-pop-front Inv-loop μ-loop → SlotPool
+popped d = let k = d .pop-front in poolOf (k .result) (k .last .1 .0) (k .last .1 .1 .0) (k .last .1 .1 .1 .0) (k .last .1 .1 .1 .1 .0)
+
+abbrev left : tie.After-close-connection Inv-loop μ-loop → SlotPool
+left d = let k = d .close-connection in poolOf (k .result .head) (k .last .1 .0) (k .last .1 .1 .0) (k .last .1 .1 .1 .0) (k .last .1 .1 .1 .1 .0)
+
+-- the pool as a turn starts, and what was read is its front
 abbrev at : tie.At-loop Inv-loop μ-loop → SlotPool
-at l = poolOf (l .loop .h) (l .loop .numbers) (l .loop .times) (l .loop .states) (l .loop .waiters)
+at l = let w = l .loop in poolOf (w .h) (w .numbers) (w .times) (w .states) (w .waiters)
 
-front : (c : tie.After-as-index Inv-loop μ-loop) → c .as-index .result ≡ getD (at (c .before .before .before) .available) 0 0
-front c =
-    let l = c .before .before .before .loop in
-    c .as-index .ensures ∙ sym (available-at (l .h) (l .numbers) (l .times) (l .states) (l .waiters) 0)
+front : (d : tie.After-as-index Inv-loop μ-loop) → d .as-index .result ≡ getD (at (d .before .before .before) .available) 0 0
+front d =
+    let w = d .before .before .before .loop in
+    d .as-index .ensures ∙ sym (available-at (w .h) (w .numbers) (w .times) (w .states) (w .waiters) 0 (omega arith))
 
 loop-holds : tie.Need-loop-holds Inv-loop μ-loop
-loop-holds c = let r = c .before .pre in sweep-start closeFront _ _ _ (r .0) (r .1) (r .2)
+loop-holds c = sweep-start closeFront (lent (c .before)) refl (c .before .pre)
 
 element-copy-out-as-index : tie.Need-element-copy-out-as-index Inv-loop μ-loop
 element-copy-out-as-index c = search needs
@@ -38,40 +56,37 @@ as-index-requires c κs = search needs
 
 pop-front-requires : tie.Need-pop-front-requires Inv-loop μ-loop
 pop-front-requires c κs =
-    let v = c .before .before .before .before .before .before .before .loop .inv in
-    (v .whole, v .safe, omega (arith, v .count))
+    let t = c .before .before .before .before .before .before in
+    front-leaves (t .before .loop .inv) (t .loop-test .taken)
 
 close-connection-requires : tie.Need-close-connection-requires Inv-loop μ-loop
 close-connection-requires c κs =
-    let l = c .before .before .before .before .before .before .before .before .before .before .before .before .before in
-    let w = c .before .before .before .before .before .before .before .before .before .before in
-    let s = sweep-room closeFront PoolClosed (w .as-index .result) (at l) (l .loop .k) (l .loop .count) (l .loop .out) _ (l .loop .inv) (c .before .before .before .before .before .before .before .before .before .before .before .before .loop-test .taken) (front w) (c .before .before .before .before .before .pop-front .ensures) in
-    (s .0, s .1, s .2, omega arith, omega arith)
+    let p = c .before .before .before .before .before in
+    let d = read p in
+    let t = d .before .before in
+    front-closes (t .before .loop .inv) (front d) (t .loop-test .taken) {q₁ = popped p} (p .pop-front .ensures)
 
 sub-k : tie.Need-sub-k Inv-loop μ-loop
-sub-k c = omega (arith, c .before .before .before .before .before .before .before .before .before .before .before .before .before .before .before .before .loop-test .taken)
+sub-k c = read (gone (c .before .before .before)) .before .before .loop-test .taken
 
 loop-less : tie.Need-loop-less Inv-loop μ-loop
-loop-less c = omega (arith, c .before .before .before .before .before .before .before .before .before .before .before .before .before .before .before .before .loop-test .taken)
+loop-less c = omega (arith, read (gone (c .before .before .before)) .before .before .loop-test .taken)
 
 loop-again : tie.Need-loop-again Inv-loop μ-loop
 unfolding if_then_else_
 loop-again c =
-    let l = c .before .before .before .before .before .before .before .before .before .before .before .before .before .before .before .before .before in
-    let w = c .before .before .before .before .before .before .before .before .before .before .before .before .before .before in
-    let i = w .as-index .result in
-    let goes = close-goes (l .loop .k) (at l) i (c .before .before .before .before .before .before .before .before .before .before .before .before .before .before .before .before .loop-test .taken) (front w) in
-    sweep-turn closeFront PoolClosed i (at l) (l .loop .k) (l .loop .count) (l .loop .out) _ _ (l .loop .inv) (c .before .before .before .before .before .before .before .before .before .before .before .before .before .before .before .before .loop-test .taken) goes (c .before .before .before .before .before .before .before .before .before .pop-front .ensures) (c .before .before .before .close-connection .ensures) (search needs)
+    let s = c .before .before .before in
+    let p = gone s in
+    let d = read p in
+    let t = d .before .before in
+    front-turns (t .before .loop .inv) (front d) (t .loop-test .taken) {q₁ = popped p} (p .pop-front .ensures) (left s)
+    (s .close-connection .ensures) (search needs)
 
 same-length : tie.Need-same-length Inv-loop μ-loop
 same-length c = search needs
 
 returns : tie.Need-returns Inv-loop μ-loop
-unfolding closeFront
-returns c =
-    let v = c .before .loop .inv in
-    let z : c .before .loop .k ≡ 0 = omega arith in
-    underway-done _ _ _ (rw z at (v .told))
+returns c = closed-all (c .before .loop .inv) (omega arith)
 
 pub close-available-spec : {M : Type 1} → statement M
 close-available-spec =

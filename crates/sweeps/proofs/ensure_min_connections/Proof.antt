@@ -1,76 +1,84 @@
-use mathlib.Core.Path.{_≡_, sym, _∙_}
-use mathlib.Core.Bool.{true, false}
 use Prim.Native.Nat.{_-_}
 use native.Mathlib.Omega.{arith}
 use borrow.Author.Tests.{not-true, not-false}
 use denote.Ref.{now}
-use Rattle.definition.specs.Pool.{isReady}
 use Rattle.slots.specs.View.{SlotPool, poolOf}
-use Rattle.slots.specs.DoneLaws.{done-as, done-nothing, underway-done}
-use Rattle.sweeps.proofs.Laws.{Filling, fill-start, fill-room, fill-turn, created-total, fill-enough, fill-busy, fill-not, fill-ready}
+use Rattle.slots.specs.Slots.{ensureMinConnections}
+use Rattle.sweeps.specs.Filling.{Filling, fill-never, fill-start, fill-creates, fill-turns, created-total, filled-enough, filled-busy}
 use borrow.Author.Needs.{needs}
 use Rattle.sweeps.proofs.ensure_min_connections.Statement.{statement}
 use Rattle.sweeps.proofs.ensure_min_connections.Tie as tie
 
 abbrev Inv-loop : tie.InvT-loop
-Inv-loop cells₀ times₀ seats₀ waiters₀ out₀ n h₀ count₀ o numbers times states waiters out h count = Filling (h₀ .serial) (h₀ .options .minimum) count₀ (poolOf h₀ cells₀ times₀ seats₀ waiters₀) out₀ o count (poolOf h numbers times states waiters) out
+Inv-loop numbers₀ times₀ states₀ waiters₀ out₀ n h₀ count₀ o numbers times states waiters out h count =
+    Filling (ensureMinConnections (poolOf h₀ numbers₀ times₀ states₀ waiters₀)) (h₀ .serial) count₀ out₀ o count (poolOf h numbers times states waiters) out
 
 abbrev μ-loop : tie.MeasureT-loop
-μ-loop cells₀ times₀ seats₀ waiters₀ out₀ n h₀ count₀ o numbers times states waiters out h count = o .minimum - h .«total_connection_count»
+μ-loop numbers₀ times₀ states₀ waiters₀ out₀ n h₀ count₀ o numbers times states waiters out h count = o .minimum - h .«total_connection_count»
 
--- the pool that the parts make as a turn starts
+-- the pool that the function is lent
+abbrev lent : tie.Start Inv-loop μ-loop → SlotPool
+lent s = let a = s .args in poolOf (a .head) (now (a .numbers)) (now (a .times)) (now (a .states)) (now (a .waiters))
+
+-- the pool as a turn starts, and the one in which one more is pending
 abbrev at : tie.At-loop Inv-loop μ-loop → SlotPool
-at l = poolOf (l .loop .h) (l .loop .numbers) (l .loop .times) (l .loop .states) (l .loop .waiters)
+at l = let w = l .loop in poolOf (w .h) (w .numbers) (w .times) (w .states) (w .waiters)
 
-abbrev start : tie.Start Inv-loop μ-loop → SlotPool
-start c = (poolOf (c .args .head) (now (c .args .numbers)) (now (c .args .times)) (now (c .args .states)) (now (c .args .waiters)))
+abbrev left : tie.After-create-pending-connection Inv-loop μ-loop → SlotPool
+left d = let k = d .create-pending-connection in poolOf (k .result .head) (k .last .1 .0) (k .last .1 .1 .0) (k .last .1 .1 .1 .0) (k .last .1 .1 .1 .1 .0)
 
-ready : (c : tie.Else1 Inv-loop μ-loop) → isReady (start (c .before .before .before .before) .state) ≡ true
-ready c = sym (c .before .is-ready .ensures) ∙ not-false _ (c .if1 .left)
+-- places of a turn: where too few were counted, seen from where too many are not pending; and that, from where one more is made
+abbrev few : tie.Else3 Inv-loop μ-loop → tie.Then2 Inv-loop μ-loop
+few d = d .before .before .before
+
+abbrev turn : tie.Then2 Inv-loop μ-loop → tie.At-loop Inv-loop μ-loop
+turn d = d .before .before .before
+
+abbrev idle : tie.After-create-pending-connection Inv-loop μ-loop → tie.Else3 Inv-loop μ-loop
+idle d = d .before .before .before .before .before .before
 
 is-ready-requires : tie.Need-is-ready-requires Inv-loop μ-loop
 is-ready-requires c κs = search needs
 
 returns : tie.Need-returns Inv-loop μ-loop
 returns c =
-    let s = start (c .before .before .before .before) in
-    done-as (fill-not s (sym (c .before .is-ready .ensures) ∙ not-true _ (c .if1 .taken))) (done-nothing s)
+    let d = c .before in
+    fill-never (lent (d .before .before .before)) (d .is-ready .ensures) (not-true _ (c .if1 .taken))
 
 loop-holds : tie.Need-loop-holds Inv-loop μ-loop
-loop-holds c = let r = c .before .before .before .before .before .pre in fill-start (start (c .before .before .before .before .before)) _ _ (r .0) (r .1) (r .2)
+loop-holds c =
+    let d = c .before .before in
+    let s = d .before .before .before in
+    fill-start (lent s) (d .is-ready .ensures) (not-false _ (c .before .if1 .left)) (s .pre)
 
 same-length : tie.Need-same-length Inv-loop μ-loop
 same-length c = search needs
 
 returns-2 : tie.Need-returns-2 Inv-loop μ-loop
-returns-2 c =
-    let l = c .before .before .before .before .before .before in
-    let v = l .loop .inv in
-    done-as (fill-ready (start (c .before .before .before .before .before .before .before .before .before .before .before .before)) (ready (c .before .before .before .before .before .before .before .before))) (underway-done _ _ _ (rw (fill-busy (v .left) (at l) (rw (v .options) (c .if3 .taken))) at (v .told)))
+returns-2 c = filled-busy (turn (c .before .before .before) .loop .inv) (c .if3 .taken)
 
 create-pending-connection-requires : tie.Need-create-pending-connection-requires Inv-loop μ-loop
 create-pending-connection-requires c κs =
-    let l = c .before .before .before .before .before .before .before .before .before .before .before in
-    let v = l .loop .inv in
-    let s = fill-room (l .loop .count) (at l) (l .loop .out) v (c .before .before .before .before .before .before .before .before .if2 .taken) in
-    (v .whole, s .0, s .1)
+    let t = few (c .before .before .before .before .before) in
+    fill-creates (turn t .loop .inv) (t .if2 .taken)
 
 loop-less : tie.Need-loop-less Inv-loop μ-loop
-loop-less c = omega (arith, c .before .before .before .before .before .before .before .before .before .before .before .before .if2 .taken, created-total (at (c .before .before .before .before .before .before .before .before .before .before .before .before .before .before .before)) _ (c .before .before .before .create-pending-connection .ensures))
+loop-less c =
+    let s = c .before .before .before in
+    let t = few (idle s) in
+    omega (arith, t .if2 .taken, created-total (at (turn t)) (left s) (s .create-pending-connection .ensures))
 
 loop-again : tie.Need-loop-again Inv-loop μ-loop
 loop-again c =
-    let l = c .before .before .before .before .before .before .before .before .before .before .before .before .before .before .before in
-    fill-turn (l .loop .count) (at l) (l .loop .out) (l .loop .inv) _ (c .before .before .before .before .before .before .before .before .before .before .before .before .if2 .taken) (c .before .before .before .before .before .before .before .before .before .if3 .left) (c .before .before .before .create-pending-connection .ensures) (search needs)
+    let s = c .before .before .before in
+    let t = few (idle s) in
+    fill-turns (turn t .loop .inv) (t .if2 .taken) (idle s .if3 .left) (left s) (s .create-pending-connection .ensures) (search needs)
 
 same-length-2 : tie.Need-same-length-2 Inv-loop μ-loop
 same-length-2 c = search needs
 
 returns-3 : tie.Need-returns-3 Inv-loop μ-loop
-returns-3 c =
-    let l = c .before .before .before in
-    let v = l .loop .inv in
-    done-as (fill-ready (start (c .before .before .before .before .before .before .before .before .before)) (ready (c .before .before .before .before .before))) (underway-done _ _ _ (rw (fill-enough (v .left) (at l) (rw (v .options) (c .if2 .left))) at (v .told)))
+returns-3 c = filled-enough (c .before .before .before .loop .inv) (c .if2 .left)
 
 pub ensure-min-connections-spec : {M : Type 1} → statement M
 ensure-min-connections-spec =

@@ -1,25 +1,26 @@
-use mathlib.Core.Path.{_≡_, sym, _∙_}
 use Prim.Native.Nat.{_-_}
 use native.Mathlib.Omega.{arith}
 use denote.Ref.{now}
 use Rattle.slots.specs.View.{SlotPool, poolOf}
 use Rattle.slots.specs.Codes.{replyOf}
-use Rattle.sweeps.proofs.Laws.{Telling, tell-start, tell-turn, tell-end}
+use Rattle.sweeps.specs.Telling.{Telling, tell-start, tell-turns, told-all}
 use borrow.Author.Needs.{needs}
 use Rattle.sweeps.proofs.tell_all.Statement.{statement}
 use Rattle.sweeps.proofs.tell_all.Tie as tie
 
 abbrev Inv-loop : tie.InvT-loop
-Inv-loop head numbers times states waiters₀ out₀ n kind other w serial count₀ k₀ waiters out count k = Telling (replyOf kind other) serial count₀ (poolOf head numbers times states waiters₀) out₀ k count waiters out
+Inv-loop head numbers times states waiters₀ out₀ n kind other w serial count₀ k₀ waiters out count k =
+    Telling (replyOf kind other) serial count₀ (poolOf head numbers times states waiters₀) out₀ k count waiters out
 
 abbrev μ-loop : tie.MeasureT-loop
 μ-loop head numbers times states waiters₀ out₀ n kind other w serial count₀ k₀ waiters out count k = w - k
 
-abbrev start : tie.Start Inv-loop μ-loop → SlotPool
-start c = (poolOf (c .args .head) (now (c .args .numbers)) (now (c .args .times)) (now (c .args .states)) (now (c .args .waiters)))
+-- the pool that the function is lent
+abbrev lent : tie.Start Inv-loop μ-loop → SlotPool
+lent s = let a = s .args in poolOf (a .head) (now (a .numbers)) (now (a .times)) (now (a .states)) (now (a .waiters))
 
 loop-holds : tie.Need-loop-holds Inv-loop μ-loop
-loop-holds c = tell-start _ _ _ (start (c .before)) _ (c .before .pre .3)
+loop-holds c = tell-start _ _ _ (lent (c .before)) _ (c .before .pre .3)
 
 mul-reply : tie.Need-mul-reply Inv-loop μ-loop
 mul-reply c = search needs
@@ -47,16 +48,16 @@ loop-less c = search needs
 
 loop-again : tie.Need-loop-again Inv-loop μ-loop
 loop-again c =
-    let l = c .before .before .before .before .before .before in
-    tell-turn _ (start (c .before .before .before .before .before .before .before .before)) (l .loop .k) (l .loop .count) (l .loop .waiters) (l .loop .out) (l .loop .inv) _ (c .before .before .before .before .before .loop-test .taken) (omega arith) (c .before .before .reply .ensures) (search needs)
+    let d = c .before .before in
+    let t = d .before .before .before in
+    tell-turns _ (lent (t .before .before .before)) (t .before .loop .inv) (d .reply .last .0) (t .loop-test .taken) (omega arith)
+    (d .reply .ensures) (search needs)
 
 same-length : tie.Need-same-length Inv-loop μ-loop
 same-length c = search needs
 
 returns : tie.Need-returns Inv-loop μ-loop
-returns c =
-    let l = c .before in
-    tell-end _ (start (c .before .before .before)) (l .loop .k) (l .loop .count) (l .loop .waiters) (l .loop .out) (l .loop .inv) (c .loop-test .left)
+returns c = told-all _ (lent (c .before .before .before)) (c .before .loop .inv) (c .loop-test .left)
 
 pub tell-all-spec : {M : Type 1} → statement M
 tell-all-spec =

@@ -1,6 +1,4 @@
 // What goes over a list, one by one: the waiters that are told, the available ones that are closed, those that are made.
-ghost use mathlib.Core.Path.{_≡_};
-ghost use Prim.Native.Nat.{_+_, _≤_, _<_};
 ghost use Rattle.definition.specs.Pool.{slotCount};
 ghost use Rattle.slots.specs.View.{given, before, after, Whole};
 ghost use Rattle.slots.specs.Done.{Room, Done};

@@ -38,23 +38,27 @@ module _ (p : SlotPool) (n : ℕ) where
   abbrev pub timeOf : ℕ
   timeOf = slotAt p slotOf .time
 
+-- what is said of an event that names neither a slot nor a waiter
+abbrev pub noTarget : ℕ
+noTarget = 0
+
 -- what the event names
 abbrev pub target : SlotPool → Event → ℕ
-target p (CheckOut n) = 0
-target p (WarmPool n) = 0
+target p (CheckOut n) = noTarget
+target p (WarmPool n) = noTarget
 target p (Abandon n) = waiterOf? p n
 target p (CheckIn n errored executing letGo) = slotOf p n
-target p (Clear timeout cause) = 0
-target p MarkAsReady = 0
+target p (Clear timeout cause) = noTarget
+target p MarkAsReady = noTarget
 target p (Succeeded n) = slotOf p n
 target p (SucceededForPool n opened) = slotOf p n
 target p (Failed n) = slotOf p n
-target p Maintenance = 0
-target p FillPool = 0
+target p Maintenance = noTarget
+target p FillPool = noTarget
 target p (Pin n) = slotOf p n
 target p (ReturnToPinner n) = slotOf p n
 target p (TakeFromPinner n) = slotOf p n
-target p Close = 0
+target p Close = noTarget
 
 abbrev pub requestTests : SlotPool → ℕ → List Test
 requestTests p n = (OldRequest if n ≤? p .lastRequest) ∷ (QueueFull if queueLength ≤? p .waitings) ∷ []

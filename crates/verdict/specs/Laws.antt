@@ -1,26 +1,18 @@
--- The cases of the tests.
+-- What the exits rest on: states as ranges, the kinds that a closed pool takes, and tests in two groups.
 use mathlib.Core.Path.{_≡_, refl, sym, ap, _∙_}
-use mathlib.Core.Bool.{Bool, true, false, true≢false, false≢true, not, _&&_, _||_}
+use mathlib.Core.Bool.{Bool, true, false, true≢false, false≢true, _&&_}
 use mathlib.Core.List.{List, [], _∷_}
 use mathlib.Core.Option.{Option, none, some}
-use Prim.Native.Nat.{ℕ, suc, _+_, _≤_, _<_}
+use Prim.Native.Nat.{ℕ, _≤_}
 use native.Mathlib.Omega.{arith}
-use borrow.Author.Tests.{lt-ltb, le-ltb, lt-leb, le-leb, eq-eqb, ne-eqb, leb-true, leb-false, eqb-true}
-use Rattle.definition.specs.Words.{if_then_else_, _<?_, _≤?_, _=?_}
-use Rattle.definition.specs.Pool.{isClosed}
+use borrow.Author.Tests.{le-leb, eq-eqb, leb-true, leb-false, eqb-true}
+use Rattle.definition.specs.Words.{if_then_else_, _≤?_, _=?_}
 use Rattle.definition.specs.Steps.{kindNo, _to_holds_}
 use Rattle.definition.specs.Refusals.{Test, _if_, first, takenAfterClose}
 use Rattle.definition.specs.declared.Event.{Event}
 use Rattle.definition.specs.declared.Event.the-variants.{CheckOut, WarmPool, Abandon, CheckIn, Clear, MarkAsReady, Succeeded, SucceededForPool, Failed, Maintenance, FillPool, Pin, ReturnToPinner, TakeFromPinner, Close}
 use Rattle.definition.specs.declared.Refusal.{Refusal}
-use Rattle.definition.specs.declared.Refusal.the-variants.{ClockBack, AfterClose, NumbersSpent}
-use Rattle.slots.specs.View.{SlotPool, slotAt}
-use Rattle.slots.specs.Call.{slotOf, stateOf, timeOf, kindTests, orAccept, target, tests, verdict}
-use Rattle.slots.specs.declared.Status.{Status}
-use Rattle.slots.specs.declared.Verdict.{Verdict}
-use Rattle.slots.specs.declared.Verdict.the-variants.{Refuse, Accept}
-use Rattle.verdict.specs.Look.{commonOf, spent, commonTests, stateList, timeList, pinList}
-use Rattle.verdict.specs.declared.Found.{Found}
+use Rattle.verdict.specs.Look.{commonOf}
 use Rattle.verdict.specs.declared.Common.the-variants.{Refuse, Pass}
 
 -- one state, as a range
@@ -36,8 +28,21 @@ one-state k s = go (s =? k) refl
         below true p false q = refl
         below false p y q = refl
 
+-- neither 3 nor 4
+pub not-pinned : (s : ℕ) → (s ≡ 3 → ⊥) → (s ≡ 4 → ⊥) → (3 to 4 holds s) ≡ false
+not-pinned s a b = go (3 ≤? s) refl (s ≤? 4) refl
+  where
+    go : (x : Bool) → (3 ≤? s) ≡ x → (y : Bool) → (s ≤? 4) ≡ y → (x && y) ≡ false
+    go true p true q = absurd (pick (s ≤? 3) refl (leb-true 3 s p) (leb-true s 4 q))
+      where
+        pick : (z : Bool) → (s ≤? 3) ≡ z → 3 ≤ s → s ≤ 4 → ⊥
+        pick true e l h = a (omega (arith, leb-true s 3 e))
+        pick false e l h = b (omega (arith, leb-false s 3 e))
+    go true p false q = refl
+    go false p y q = refl
+
 -- a clear is not among the kinds that a closed pool takes
-clear-no : (e : Event) → takenAfterClose e ≡ true → (kindNo e =? 5) ≡ false
+pub clear-no : (e : Event) → takenAfterClose e ≡ true → (kindNo e =? 5) ≡ false
 clear-no (CheckOut n) h = refl
 clear-no (WarmPool n) h = refl
 clear-no (Abandon n) h = refl
@@ -54,71 +59,25 @@ clear-no (ReturnToPinner n) h = refl
 clear-no (TakeFromPinner n) h = refl
 clear-no Close h = refl
 
-module _ (clock nextId : ℕ) (m : Status) (now : ℕ) (e : Event) where
-  pub common-back : now < clock → first (commonTests clock nextId m now e) ≡ some ClockBack
-  unfolding first if_then_else_
-  common-back h = rw (lt-ltb now clock h)
-
-  pub common-taken : clock ≤ now → isClosed (m .state) ≡ true → takenAfterClose e ≡ true → first (commonTests clock nextId m now e) ≡ none
-  unfolding first if_then_else_
-  common-taken h c t = rw (le-ltb now clock h, c, t, clear-no e t)
-
-  pub common-closed : clock ≤ now → isClosed (m .state) ≡ true → takenAfterClose e ≡ false → first (commonTests clock nextId m now e) ≡ some AfterClose
-  unfolding first if_then_else_
-  common-closed h c t = rw (le-ltb now clock h, c, t)
-
-  pub common-spent : clock ≤ now → isClosed (m .state) ≡ false → spent (kindNo e) (m .generation) nextId ≡ true → first (commonTests clock nextId m now e) ≡ some NumbersSpent
-  unfolding first if_then_else_
-  common-spent h c t = rw (le-ltb now clock h, c, t)
-
-  pub common-open : clock ≤ now → isClosed (m .state) ≡ false → spent (kindNo e) (m .generation) nextId ≡ false → first (commonTests clock nextId m now e) ≡ none
-  unfolding first if_then_else_
-  common-open h c t = rw (le-ltb now clock h, c, t)
-
 -- tests in two groups: the first of the first group, or else of the second
-first-of : (a b c : Test) (ts : List Test) → (first (a ∷ b ∷ c ∷ []) ≡ none → first (a ∷ b ∷ c ∷ ts) ≡ first ts)
+pub first-of : (a b c : Test) (ts : List Test) → (first (a ∷ b ∷ c ∷ []) ≡ none → first (a ∷ b ∷ c ∷ ts) ≡ first ts)
 unfolding first if_then_else_
 first-of (x if true) b c ts h = let z : _≡_ {A = ℕ} 0 1 = cc in absurd (omega arith)
 first-of (x if false) (y if true) c ts h = let z : _≡_ {A = ℕ} 0 1 = cc in absurd (omega arith)
 first-of (x if false) (y if false) (w if true) ts h = let z : _≡_ {A = ℕ} 0 1 = cc in absurd (omega arith)
 first-of (x if false) (y if false) (w if false) ts h = refl
 
-first-by : (a b c : Test) (ts : List Test) (r : Refusal) → (first (a ∷ b ∷ c ∷ []) ≡ some r → first (a ∷ b ∷ c ∷ ts) ≡ some r)
+pub first-by : (a b c : Test) (ts : List Test) (r : Refusal) → (first (a ∷ b ∷ c ∷ []) ≡ some r → first (a ∷ b ∷ c ∷ ts) ≡ some r)
 unfolding first if_then_else_
 first-by (x if true) b c ts r h = h
 first-by (x if false) (y if true) c ts r h = h
 first-by (x if false) (y if false) (w if true) ts r h = h
 first-by (x if false) (y if false) (w if false) ts r h = let z : _≡_ {A = ℕ} 0 1 = cc in absurd (omega arith)
 
-common-refused : (o : Option Refusal) (r : Refusal) → commonOf o ≡ Refuse r → o ≡ some r
+pub common-refused : (o : Option Refusal) (r : Refusal) → commonOf o ≡ Refuse r → o ≡ some r
 common-refused none r h = let z : _≡_ {A = ℕ} 0 1 = cc in absurd (omega arith)
 common-refused (some s) r h = let z : s ≡ r = cc in ap some z
 
-common-passed : (o : Option Refusal) → commonOf o ≡ Pass → o ≡ none
+pub common-passed : (o : Option Refusal) → commonOf o ≡ Pass → o ≡ none
 common-passed none h = refl
 common-passed (some s) h = let z : _≡_ {A = ℕ} 0 1 = cc in absurd (omega arith)
-
--- the verdict, by what the shared tests say
-module _ (p : SlotPool) (e : Event) (now : ℕ) (m : Status) (s : m .state ≡ p .state) (g : m .generation ≡ p .generation) where
-  pub verdict-by : (r : Refusal) → commonOf (first (commonTests (p .clock) (p .nextId) m now e)) ≡ Refuse r → verdict p e now ≡ Refuse r
-  unfolding verdict tests
-  verdict-by r h =
-      let k = rw (s, g) at (common-refused (first (commonTests (p .clock) (p .nextId) m now e)) r h) in
-      ap (orAccept (target p e)) (first-by _ _ _ (kindTests p e now) r k)
-
-  pub verdict-open : commonOf (first (commonTests (p .clock) (p .nextId) m now e)) ≡ Pass → verdict p e now ≡ orAccept (target p e) (first (kindTests p e now))
-  unfolding verdict tests
-  verdict-open h =
-      let k = rw (s, g) at (common-passed (first (commonTests (p .clock) (p .nextId) m now e)) h) in
-      ap (orAccept (target p e)) (first-of _ _ _ (kindTests p e now) k)
-
--- what was looked up, as the tests on slots have it
-module _ (p : SlotPool) (id : ℕ) (f : Found) (a : f .at ≡ slotOf p id) (s : f .state ≡ slotAt p (f .at) .state) (t : f .time ≡ slotAt p (f .at) .time) where
-  pub looked-state : (low high : ℕ) → orAccept (f .at) (first (stateList (f .state) low high)) ≡ orAccept (slotOf p id) (first (stateList (stateOf p id) low high))
-  looked-state low high = rw (s, a)
-
-  pub looked-time : (low high second now : ℕ) → orAccept (f .at) (first (timeList (f .state) low high second (f .time) now)) ≡ orAccept (slotOf p id) (first (timeList (stateOf p id) low high second (timeOf p id) now))
-  looked-time low high second now = rw (s, t, a)
-
-  pub looked-pin : orAccept (f .at) (first (pinList (f .state))) ≡ orAccept (slotOf p id) (first (pinList (stateOf p id)))
-  looked-pin = rw (s, a)

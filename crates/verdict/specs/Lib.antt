@@ -1,2 +1,3 @@
 pub mod Look
 pub mod Laws
+pub mod Exits

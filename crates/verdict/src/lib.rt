@@ -1,28 +1,32 @@
 // What the tests say of an event: refused, or at which slot or waiter.
 ghost use mathlib.Core.Path.{_≡_};
-ghost use mathlib.Core.Bool.{true, false, not, _&&_, _||_};
-ghost use Prim.Native.Nat.{_+_, _≤_, _<_, _%_};
-ghost use lib.ListN.{length, getD, take, drop};
-ghost use Rattle.definition.specs.Words.{if_then_else_, _≤?_, _<?_, _=?_};
+ghost use Prim.Native.Nat.{_≤_};
+ghost use lib.ListN.{length};
 ghost use Rattle.definition.specs.Pool.{slotCount, queueLength};
-ghost use Rattle.definition.specs.Steps.{kindNo, _to_holds_};
-ghost use Rattle.definition.specs.Refusals.{first, wrongTime};
+ghost use Rattle.definition.specs.Steps.{kindNo};
+ghost use Rattle.definition.specs.Refusals.{first};
 ghost use Rattle.slots.specs.Order.{placeOf};
-ghost use Rattle.slots.specs.View.{rows, poolOf, Whole};
-ghost use Rattle.slots.specs.Call.{kindTests, orAccept, target, verdict};
-ghost use Rattle.verdict.specs.Look.{Looks, commonOf, spent, commonTests, requestList, abandonList, stateList, timeList, pinList};
+ghost use Rattle.slots.specs.View.{idsIn, slotsOf, given, before, Whole};
+ghost use Rattle.slots.specs.Call.{orAccept, noTarget, verdict};
+ghost use Rattle.verdict.specs.Look.{Looks, takenAfter, spent, commonVerdict, requestList, abandonList, stateList, timeList, pinList, kindVerdict};
 use definition::Event;
 use definition::LAST_NEXT_ID;
-use definition::Refusal;
-use slots::Numbers;
-use slots::Head;
-use slots::Status;
 use definition::QUEUE;
+use definition::Refusal;
 use definition::SLOTS;
+use slots::Head;
+use slots::Numbers;
 use slots::States;
+use slots::Status;
 use slots::Times;
 use slots::Verdict;
 use slots::Waiters;
+
+// What an event is accepted with that names neither a slot nor a waiter.
+const NO_TARGET: usize = 0;
+
+// A clear goes to the next generation; there is none behind this one.
+const LAST_GENERATION: u32 = 4294967295;
 
 // The slot of an id, the count of slots where it has none, and what stands there.
 pub struct Found {
@@ -61,7 +65,7 @@ pub fn kind_no(e: Event) -> u8
 
 // A closed pool still takes kinds 4, 7 to 9 and 12 to 14.
 fn taken_after_close(kind: u8) -> bool
-    ensures { λ r. ⌜ r ≡ (kind =? 4 || 7 to 9 holds kind || 12 to 14 holds kind) ⌝ }
+    ensures { λ r. ⌜ r ≡ takenAfter kind ⌝ }
 {
     if kind == 4 {
         return true;
@@ -89,14 +93,14 @@ fn numbers_spent(kind: u8, generation: u32, next_id: u32) -> bool
         return true;
     }
     if kind == 5 {
-        return generation == 4294967295;
+        return generation == LAST_GENERATION;
     }
     false
 }
 
 // 3, 4 and 5.
 pub fn common_verdict(clock: u64, next_id: u32, m: Status, time: u64, e: Event) -> Common
-    ensures { λ r. ⌜ r ≡ commonOf (first (commonTests clock «next_id» m time e)) ⌝ }
+    ensures { λ r. ⌜ r ≡ commonVerdict clock «next_id» m time e ⌝ }
 {
     if time < clock {
         return Common::Refuse(Refusal::ClockBack);
@@ -116,8 +120,8 @@ pub fn common_verdict(clock: u64, next_id: u32, m: Status, time: u64, e: Event) 
 }
 
 pub fn look(numbers: &Numbers, times: &Times, states: &States, id: u32) -> Found
-    requires { ⌜ length (rows (drop slotCount (now numbers)) (now times) (take slotCount (now states))) ≡ slotCount ⌝ }
-    ensures { λ r. ⌜ Looks (now (numbers .entry)) (now (times .entry)) (now (states .entry)) id r ⌝ }
+    requires { ⌜ length (slotsOf (now numbers) (now times) (now states)) ≡ slotCount ⌝ }
+    ensures { λ r. ⌜ Looks (idsIn (now (numbers .entry))) (slotsOf (now (numbers .entry)) (now (times .entry)) (now (states .entry))) id r ⌝ }
 {
     let i = table::find(numbers, id);
     if i < SLOTS {
@@ -136,7 +140,7 @@ pub fn look(numbers: &Numbers, times: &Times, states: &States, id: u32) -> Found
 
 // 6 and 7, of a request.
 fn request_verdict(last_request: u32, waiting: usize, id: u32) -> Verdict
-    ensures { λ r. ⌜ r ≡ orAccept 0 (first (requestList «last_request» waiting id)) ⌝ }
+    ensures { λ r. ⌜ r ≡ orAccept noTarget (first (requestList «last_request» waiting id)) ⌝ }
 {
     if id <= last_request {
         return Verdict::Refuse(Refusal::OldRequest);
@@ -144,7 +148,7 @@ fn request_verdict(last_request: u32, waiting: usize, id: u32) -> Verdict
     if QUEUE <= waiting {
         return Verdict::Refuse(Refusal::QueueFull);
     }
-    Verdict::Accept(0)
+    Verdict::Accept(NO_TARGET)
 }
 
 // 11, of an abandon.
@@ -218,8 +222,8 @@ pub fn kind_verdict(
     e: Event,
     time: u64,
 ) -> Verdict
-    requires { ⌜ Whole (poolOf head (now numbers) (now times) (now states) (now waiters)) × (head .«waiting_count» ≤ queueLength) ⌝ }
-    ensures { λ r. ⌜ r ≡ orAccept (target (poolOf head (now (numbers .entry)) (now (times .entry)) (now (states .entry)) (now (waiters .entry))) e) (first (kindTests (poolOf head (now (numbers .entry)) (now (times .entry)) (now (states .entry)) (now (waiters .entry))) e time)) ⌝ }
+    requires { ⌜ Whole (given head numbers times states waiters) × (head .«waiting_count» ≤ queueLength) ⌝ }
+    ensures { λ r. ⌜ r ≡ kindVerdict (before head numbers times states waiters) e time ⌝ }
 {
     match e {
         Event::CheckOut(id) => request_verdict(head.last_request, head.waiting_count, id),
@@ -232,8 +236,8 @@ pub fn kind_verdict(
             let_go,
             time,
         ),
-        Event::Clear(_, _) => Verdict::Accept(0),
-        Event::MarkAsReady => Verdict::Accept(0),
+        Event::Clear(_, _) => Verdict::Accept(NO_TARGET),
+        Event::MarkAsReady => Verdict::Accept(NO_TARGET),
         Event::Succeeded(id) => {
             let f = look(numbers, times, states, id);
             in_state(f.at, f.state, 5, 5)
@@ -249,8 +253,8 @@ pub fn kind_verdict(
             let f = look(numbers, times, states, id);
             in_state(f.at, f.state, 5, 6)
         }
-        Event::Maintenance => Verdict::Accept(0),
-        Event::FillPool => Verdict::Accept(0),
+        Event::Maintenance => Verdict::Accept(NO_TARGET),
+        Event::FillPool => Verdict::Accept(NO_TARGET),
         Event::Pin(id) => {
             let f = look(numbers, times, states, id);
             pin_verdict(f.at, f.state)
@@ -263,7 +267,7 @@ pub fn kind_verdict(
             let f = look(numbers, times, states, id);
             in_state(f.at, f.state, 3, 4)
         }
-        Event::Close => Verdict::Accept(0),
+        Event::Close => Verdict::Accept(NO_TARGET),
     }
 }
 
@@ -277,8 +281,8 @@ pub fn verdict(
     e: Event,
     time: u64,
 ) -> Verdict
-    requires { ⌜ Whole (poolOf head (now numbers) (now times) (now states) (now waiters)) × (head .«waiting_count» ≤ queueLength) ⌝ }
-    ensures { λ r. ⌜ r ≡ verdict (poolOf head (now (numbers .entry)) (now (times .entry)) (now (states .entry)) (now (waiters .entry))) e time ⌝ }
+    requires { ⌜ Whole (given head numbers times states waiters) × (head .«waiting_count» ≤ queueLength) ⌝ }
+    ensures { λ r. ⌜ r ≡ verdict (before head numbers times states waiters) e time ⌝ }
 {
     let m = head.status;
     match common_verdict(head.clock, head.next_connection_id, m, time, e) {

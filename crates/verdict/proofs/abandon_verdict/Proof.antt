@@ -1,10 +1,5 @@
-use mathlib.Core.Path.{_≡_, refl}
-use Prim.Native.Nat.{_%_}
 use denote.Ref.{now}
-use lib.ListN.{getD}
-use borrow.Author.Tests.{lt-ltb, le-ltb}
-use Rattle.definition.specs.Words.{if_then_else_}
-use Rattle.definition.specs.Refusals.{first}
+use Rattle.verdict.specs.Exits.{still-waits, was-abandoned, never-waits}
 use borrow.Author.Needs.{needs}
 use Rattle.verdict.proofs.abandon_verdict.Statement.{statement}
 use Rattle.verdict.proofs.abandon_verdict.Tie as tie
@@ -22,25 +17,22 @@ element-copy-out-if2 : tie.Need-element-copy-out-if2
 element-copy-out-if2 c = search needs
 
 returns : tie.Need-returns
-unfolding first if_then_else_
 returns c =
-    let a = c .before .before .before .before .args in
-    let k = c .before .before .before .find-waiter .result in
-    rw (← c .before .before .before .find-waiter .ensures, lt-ltb k (a .waiting) (c .before .before .if1 .taken), lt-ltb (getD (now (a .waiters)) k 0 % 4) 2 (c .if2 .taken))
+    let d = c .before .before .before in
+    let a = d .before .args in
+    still-waits (now (a .waiters)) (a .waiting) (a .id) (d .find-waiter .ensures) (c .before .before .if1 .taken) (c .if2 .taken)
 
 returns-2 : tie.Need-returns-2
-unfolding first if_then_else_
 returns-2 c =
-    let a = c .before .before .before .before .args in
-    let k = c .before .before .before .find-waiter .result in
-    rw (← c .before .before .before .find-waiter .ensures, lt-ltb k (a .waiting) (c .before .before .if1 .taken), le-ltb (getD (now (a .waiters)) k 0 % 4) 2 (c .if2 .left))
+    let d = c .before .before .before in
+    let a = d .before .args in
+    was-abandoned (now (a .waiters)) (a .waiting) (a .id) (d .find-waiter .ensures) (c .before .before .if1 .taken) (c .if2 .left)
 
 returns-3 : tie.Need-returns-3
-unfolding first if_then_else_
 returns-3 c =
-    let a = c .before .before .args in
-    let k = c .before .find-waiter .result in
-    rw (← c .before .find-waiter .ensures, le-ltb k (a .waiting) (c .if1 .left))
+    let d = c .before in
+    let a = d .before .args in
+    never-waits (now (a .waiters)) (a .waiting) (a .id) (d .find-waiter .ensures) (c .if1 .left)
 
 pub abandon-verdict-spec : {M : Type 1} → statement M
 abandon-verdict-spec =

@@ -1,10 +1,8 @@
-use mathlib.Core.Path.{_≡_, refl, sym, ap, _∙_}
 use denote.Ref.{now}
-use Rattle.definition.specs.Words.{if_then_else_}
 use Rattle.definition.specs.Refusals.{first}
-use Rattle.slots.specs.View.{poolOf}
-use Rattle.slots.specs.Call.{stateOf}
-use Rattle.verdict.specs.Laws.{one-state, looked-state, looked-time, looked-pin}
+use Rattle.slots.specs.View.{SlotPool, poolOf}
+use Rattle.verdict.specs.Look.{kindVerdict}
+use Rattle.verdict.specs.Exits.{of-check-out, of-warm-pool, of-abandon, of-check-in, of-succeeded, of-succeeded-for-pool, of-failed, of-pin, of-return, of-take}
 use borrow.Author.Needs.{needs}
 use Rattle.verdict.proofs.kind_verdict.Statement.{statement}
 use Rattle.verdict.proofs.kind_verdict.Tie as tie
@@ -16,6 +14,10 @@ use Rattle.verdict.proofs.in_time.Reads as in-time-reads
 use Rattle.verdict.proofs.look.Reads as look-reads
 use Rattle.verdict.proofs.pin_verdict.Reads as pin-verdict-reads
 use Rattle.verdict.proofs.request_verdict.Reads as request-verdict-reads
+
+-- the pool that is looked at
+abbrev lent : tie.Start → SlotPool
+lent s = let a = s .args in poolOf (a .head) (now (a .numbers)) (now (a .times)) (now (a .states)) (now (a .waiters))
 
 enum-known-e : tie.Need-enum-known-e
 enum-known-e c = search needs
@@ -114,74 +116,80 @@ enum-told-5 : tie.Need-enum-told-5
 enum-told-5 c = search needs
 
 returns : tie.Need-returns
-returns c = rw (c .before .before .e .given .1) (c .request-verdict .ensures)
+returns c =
+    let s = c .before .before .before .before in
+    of-check-out (lent s) (s .args .e) (s .args .time) (c .before .before .e .given .1) (c .request-verdict .ensures)
 
 returns-2 : tie.Need-returns-2
-returns-2 c = rw (c .before .before .e2 .given .1) (c .request-verdict2 .ensures)
+returns-2 c =
+    let s = c .before .before .before .before in
+    of-warm-pool (lent s) (s .args .e) (s .args .time) (c .before .before .e2 .given .1) (c .request-verdict2 .ensures)
 
 returns-3 : tie.Need-returns-3
-returns-3 c = rw (c .before .before .e3 .given .1) (c .abandon-verdict .ensures)
+returns-3 c =
+    let s = c .before .before .before .before in
+    of-abandon (lent s) (s .args .e) (s .args .time) (c .before .before .e3 .given .1) (c .abandon-verdict .ensures)
 
 returns-4 : tie.Need-returns-4
 returns-4 c =
-    let a = c .before .before .before .before .before .args in
-    let l = c .before .look .ensures in
-    rw (c .before .before .before .e4 .given .1) (c .in-time .ensures ∙ looked-time (poolOf (a .head) (now (a .numbers)) (now (a .times)) (now (a .states)) (now (a .waiters))) _ (c .before .look .result) (l .at) (l .state) (l .time) 2 4 _ (a .time))
+    let s = c .before .before .before .before .before in
+    let f = c .before .look in
+    of-check-in (lent s) (s .args .e) (s .args .time) (f .result) (f .ensures) (c .before .before .before .e4 .given .1) (c .in-time .ensures)
 
 returns-5 : tie.Need-returns-5
-unfolding first
+unfolding kindVerdict first
 returns-5 c = rw (c .enum-told .given .1)
 
 returns-6 : tie.Need-returns-6
-unfolding first
+unfolding kindVerdict first
 returns-6 c = rw (c .enum-told2 .given .1)
 
 returns-7 : tie.Need-returns-7
 returns-7 c =
-    let a = c .before .before .before .before .before .args in
-    let l = c .before .look2 .ensures in
-    rw (c .before .before .before .e5 .given .1, one-state) (c .in-state .ensures ∙ looked-state (poolOf (a .head) (now (a .numbers)) (now (a .times)) (now (a .states)) (now (a .waiters))) _ (c .before .look2 .result) (l .at) (l .state) (l .time) 5 5)
+    let s = c .before .before .before .before .before in
+    let f = c .before .look2 in
+    of-succeeded (lent s) (s .args .e) (s .args .time) (f .result) (f .ensures) (c .before .before .before .e5 .given .1) (c .in-state .ensures)
 
 returns-8 : tie.Need-returns-8
 returns-8 c =
-    let a = c .before .before .before .before .before .args in
-    let l = c .before .look3 .ensures in
-    rw (c .before .before .before .e6 .given .1, one-state) (c .in-time2 .ensures ∙ looked-time (poolOf (a .head) (now (a .numbers)) (now (a .times)) (now (a .states)) (now (a .waiters))) _ (c .before .look3 .result) (l .at) (l .state) (l .time) 6 6 _ (a .time))
+    let s = c .before .before .before .before .before in
+    let f = c .before .look3 in
+    of-succeeded-for-pool (lent s) (s .args .e) (s .args .time) (f .result) (f .ensures) (c .before .before .before .e6 .given .1) (c .in-time2 .ensures)
 
 returns-9 : tie.Need-returns-9
 returns-9 c =
-    let a = c .before .before .before .before .before .args in
-    let l = c .before .look4 .ensures in
-    rw (c .before .before .before .e7 .given .1) (c .in-state2 .ensures ∙ looked-state (poolOf (a .head) (now (a .numbers)) (now (a .times)) (now (a .states)) (now (a .waiters))) _ (c .before .look4 .result) (l .at) (l .state) (l .time) 5 6)
+    let s = c .before .before .before .before .before in
+    let f = c .before .look4 in
+    of-failed (lent s) (s .args .e) (s .args .time) (f .result) (f .ensures) (c .before .before .before .e7 .given .1) (c .in-state2 .ensures)
 
 returns-10 : tie.Need-returns-10
-unfolding first
+unfolding kindVerdict first
 returns-10 c = rw (c .enum-told3 .given .1)
 
 returns-11 : tie.Need-returns-11
-unfolding first
+unfolding kindVerdict first
 returns-11 c = rw (c .enum-told4 .given .1)
 
 returns-12 : tie.Need-returns-12
 returns-12 c =
-    let a = c .before .before .before .before .before .args in
-    let l = c .before .look5 .ensures in
-    rw (c .before .before .before .e8 .given .1) (c .pin-verdict .ensures ∙ looked-pin (poolOf (a .head) (now (a .numbers)) (now (a .times)) (now (a .states)) (now (a .waiters))) _ (c .before .look5 .result) (l .at) (l .state) (l .time))
+    let s = c .before .before .before .before .before in
+    let f = c .before .look5 in
+    of-pin (lent s) (s .args .e) (s .args .time) (f .result) (f .ensures) (c .before .before .before .e8 .given .1) (c .pin-verdict .ensures)
 
 returns-13 : tie.Need-returns-13
 returns-13 c =
-    let a = c .before .before .before .before .before .args in
-    let l = c .before .look6 .ensures in
-    rw (c .before .before .before .e9 .given .1, one-state) (c .in-state3 .ensures ∙ looked-state (poolOf (a .head) (now (a .numbers)) (now (a .times)) (now (a .states)) (now (a .waiters))) _ (c .before .look6 .result) (l .at) (l .state) (l .time) 3 3)
+    let s = c .before .before .before .before .before in
+    let f = c .before .look6 in
+    of-return (lent s) (s .args .e) (s .args .time) (f .result) (f .ensures) (c .before .before .before .e9 .given .1) (c .in-state3 .ensures)
 
 returns-14 : tie.Need-returns-14
 returns-14 c =
-    let a = c .before .before .before .before .before .args in
-    let l = c .before .look7 .ensures in
-    rw (c .before .before .before .e10 .given .1) (c .in-state4 .ensures ∙ looked-state (poolOf (a .head) (now (a .numbers)) (now (a .times)) (now (a .states)) (now (a .waiters))) _ (c .before .look7 .result) (l .at) (l .state) (l .time) 3 4)
+    let s = c .before .before .before .before .before in
+    let f = c .before .look7 in
+    of-take (lent s) (s .args .e) (s .args .time) (f .result) (f .ensures) (c .before .before .before .e10 .given .1) (c .in-state4 .ensures)
 
 returns-15 : tie.Need-returns-15
-unfolding first
+unfolding kindVerdict first
 returns-15 c = rw (c .enum-told5 .given .1)
 
 pub kind-verdict-spec : {M : Type 1} → statement M

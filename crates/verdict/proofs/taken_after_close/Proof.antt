@@ -24,13 +24,15 @@ returns-3 c =
 
 returns-4 : tie.Need-returns-4
 returns-4 c =
-    let k = c .before .before .before .before .args .kind in
-    rw (ne-eqb k 4 (c .before .before .before .if1 .left), le-leb 7 k (c .before .before .if2 .left), lt-leb k 9 (c .before .if3 .left), lt-leb 12 k (c .if4 .taken))
+    let d = c .before .before in
+    let k = d .before .before .args .kind in
+    rw (ne-eqb k 4 (d .before .if1 .left), le-leb 7 k (d .if2 .left), lt-leb k 9 (c .before .if3 .left), lt-leb 12 k (c .if4 .taken))
 
 returns-5 : tie.Need-returns-5
 returns-5 c =
-    let k = c .before .before .before .before .args .kind in
-    rw (ne-eqb k 4 (c .before .before .before .if1 .left), le-leb 7 k (c .before .before .if2 .left), lt-leb k 9 (c .before .if3 .left), le-leb 12 k (c .if4 .left))
+    let d = c .before .before in
+    let k = d .before .before .args .kind in
+    rw (ne-eqb k 4 (d .before .if1 .left), le-leb 7 k (d .if2 .left), lt-leb k 9 (c .before .if3 .left), le-leb 12 k (c .if4 .left))
 
 pub taken-after-close-spec : {M : Type 1} → statement M
 taken-after-close-spec = tie.close (tie.spec returns returns-2 returns-3 returns-4 returns-5)

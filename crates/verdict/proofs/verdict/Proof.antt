@@ -1,7 +1,7 @@
-use mathlib.Core.Path.{_≡_, refl, sym, _∙_}
+use mathlib.Core.Path.{refl}
 use denote.Ref.{now}
-use Rattle.slots.specs.View.{poolOf}
-use Rattle.verdict.specs.Laws.{verdict-by, verdict-open}
+use Rattle.slots.specs.View.{SlotPool, poolOf}
+use Rattle.verdict.specs.Exits.{verdict-by, verdict-open}
 use borrow.Author.Needs.{needs}
 use Rattle.verdict.proofs.verdict.Statement.{statement}
 use Rattle.verdict.proofs.verdict.Tie as tie
@@ -9,6 +9,10 @@ use Rattle.verdict.proofs.verdict.Reads as reads
 use Rattle.verdict.proofs.verdict.Lts as lts
 use Rattle.verdict.proofs.common_verdict.Reads as common-verdict-reads
 use Rattle.verdict.proofs.kind_verdict.Reads as kind-verdict-reads
+
+-- the pool that is looked at
+abbrev lent : tie.Start → SlotPool
+lent s = let a = s .args in poolOf (a .head) (now (a .numbers)) (now (a .times)) (now (a .states)) (now (a .waiters))
 
 common-verdict-requires : tie.Need-common-verdict-requires
 common-verdict-requires c κs = search needs
@@ -24,13 +28,16 @@ kind-verdict-requires c κs = search needs
 
 returns : tie.Need-returns
 returns c =
-    let a = c .before .before .before .before .before .args in
-    sym (verdict-by (poolOf (a .head) (now (a .numbers)) (now (a .times)) (now (a .states)) (now (a .waiters))) (a .e) (a .time) (a .head .status) refl refl _ (sym (c .before .before .before .common-verdict .ensures) ∙ c .before .r .given .1))
+    let asked = c .before .before .before in
+    let s = asked .before .before in
+    verdict-by (lent s) (s .args .e) (s .args .time) (s .args .head .status) refl refl (asked .common-verdict .ensures) (c .before .r .given .1)
 
 returns-2 : tie.Need-returns-2
 returns-2 c =
-    let a = c .before .before .before .before .before .args in
-    c .kind-verdict .ensures ∙ sym (verdict-open (poolOf (a .head) (now (a .numbers)) (now (a .times)) (now (a .states)) (now (a .waiters))) (a .e) (a .time) (a .head .status) refl refl (sym (c .before .before .before .common-verdict .ensures) ∙ c .before .enum-told .given .1))
+    let asked = c .before .before .before in
+    let s = asked .before .before in
+    verdict-open (lent s) (s .args .e) (s .args .time) (s .args .head .status) refl refl (asked .common-verdict .ensures)
+    (c .before .enum-told .given .1) (c .kind-verdict .ensures)
 
 pub verdict-spec : {M : Type 1} → statement M
 verdict-spec =

@@ -9,7 +9,7 @@ use borrow.Author.Tests.{lt-ltb, le-ltb, eq-eqb}
 use Rattle.refinement.specs.Table.{by-bool, or-right}
 use Rattle.definition.specs.Words.{if_then_else_, _=?_, _<?_}
 use Rattle.definition.specs.Pool.{isClosed}
-use Rattle.definition.specs.Steps.{Out, nothing, kindNo, serviced}
+use Rattle.definition.specs.Steps.{nothing, kindNo, serviced, _to_holds_}
 use Rattle.definition.specs.Refusals.{enoughRoom, lastNextId, lastGeneration, takenAfterClose}
 use Rattle.definition.specs.Bytes.{serialOf}
 use Rattle.definition.specs.declared.Event.{Event}
@@ -19,6 +19,7 @@ use Rattle.definition.specs.declared.Refusal.{Refusal}
 use Rattle.definition.specs.declared.Refusal.the-variants.{OutputShort, Malformed}
 use Rattle.slots.specs.View.{SlotPool, Whole, withClock, withSerial}
 use Rattle.slots.specs.Done.{Room, Done}
+use Rattle.slots.specs.DoneLaws.{done-then, done-serial, done-nothing}
 use Rattle.slots.specs.Needs.{CanServe}
 use Rattle.slots.specs.Slots.{handle, event, service}
 use Rattle.slots.specs.Call.{target, verdict, World, world, accepted, judged, step, call, numbersSpent}
@@ -27,11 +28,12 @@ use Rattle.slots.specs.declared.Outcome.the-variants.{Refused, Accepted}
 use Rattle.refinement.specs.Stands.{Stands, Formed}
 use Rattle.refinement.specs.Tests.{Passed}
 use Rattle.refinement.specs.Events.{Fit, fit-clock}
+use Rattle.refinement.specs.Leaves.{handle-leaves}
 use Rattle.refinement.specs.Call.{clock-stands}
 use Rattle.refinement.specs.Formed.{ids-left, closed-takes}
 use Rattle.refinement.specs.Needs.{can-serve-after}
 use Rattle.refinement.specs.RecordRoom.{room-after}
-use Rattle.event.specs.Asks.{Asks}
+use Rattle.dispatch.specs.Asks.{Asks}
 
 -- ── What the stages ask ────────────────────────────────────────────────────────────────────────────────────────────────
 
@@ -56,14 +58,23 @@ module _ (p : SlotPool) (e : Event) (now : ℕ) (f : Formed p) (h : Passed p e n
       let v : q .availables ≡ handle e i (withClock p now) .pool .availables = ap (λ (x : SlotPool). x .availables) eq in
       (rw eq (w .0), rw eq (w .1), (omega (arith, en, v, r .0), omega (arith, en, v, r .1)))
 
--- the service stage, where the event has one
-pub then-service : (b : Bool) (q : SlotPool) → b ≡ true → (if b then service else nothing) q ≡ service q
-unfolding if_then_else_
-then-service b q h = rw h
+-- ── The exits of an event ──────────────────────────────────────────────────────────────────────────────────────────────
 
-pub then-nothing : (b : Bool) (q : SlotPool) → b ≡ false → (if b then service else nothing) q ≡ nothing q
-unfolding if_then_else_
-then-nothing b q h = rw h
+-- k is the number of the event's kind, b the answer whether such a kind is serviced
+module _ (p : SlotPool) (e : Event) (i : ℕ) {k : ℕ} {b : Bool} (known : k ≡ kindNo e) (test : b ≡ (1 to 2 holds k || 4 to 11 holds k)) where
+  is : {c : Bool} → b ≡ c → serviced e ≡ c
+  is h = rw (← known) (sym test ∙ h)
+
+  module _ (q : SlotPool) {n : ℕ} {l l₁ : List ℕ} (d : Done (handle e i p) (p .serial) 0 l q n l₁) where
+    pub event-serviced : b ≡ true → {r : SlotPool} {m : ℕ} {l₂ : List ℕ} → Done (service q) (q .serial) n l₁ r m l₂ → Done (event e i p) (p .serial) 0 l r m l₂
+    unfolding event if_then_else_
+    event-serviced h {r} f =
+        let serial : q .serial ≡ p .serial = ap (λ (x : SlotPool). x .serial) (d .pool) ∙ handle-leaves e i p .serial in
+        done-then (handle e i) (if serviced e then service else nothing) p q r d (rw (is h) (done-serial serial f))
+
+    pub event-unserviced : b ≡ false → Done (event e i p) (p .serial) 0 l q n l₁
+    unfolding event if_then_else_
+    event-unserviced h = done-then (handle e i) (if serviced e then service else nothing) p q q d (rw (is h) (done-nothing q))
 
 -- ── A step, and a call ─────────────────────────────────────────────────────────────────────────────────────────────────
 
@@ -77,8 +88,11 @@ module _ (p : SlotPool) (l : List ℕ) (e : Event) (now : ℕ) where
   step-taken i h = ap (judged p l e now) h
 
 -- what was done, with the serial moved once
-pub done-world : {o : Out SlotPool} (p : SlotPool) {s m : ℕ} {l k : List ℕ} {q : SlotPool} → Done o (p .serial) 0 l q m k → s ≡ serialOf (p .serial + m) → world (withSerial q s) k (Accepted m) ≡ accepted p l o
-done-world {o} p {s} {m} d e = let z : m ≡ length (o .records) = omega (arith, d .count) in rw (e, z, d .out, d .pool)
+pub step-done : (p : SlotPool) (l : List ℕ) (e : Event) (now i : ℕ) (q : SlotPool) {s m : ℕ} {k : List ℕ}
+    → verdict p e now ≡ Accept i → Done (event e i (withClock p now)) (p .serial) 0 l q m k → s ≡ serialOf (p .serial + m) → world (withSerial q s) k (Accepted m) ≡ step p l e now
+step-done p l e now i q {s} {m} h d f =
+    let z : m ≡ length (event e i (withClock p now) .records) = omega (arith, d .count) in
+    rw (f, z, d .out, d .pool) (sym (step-taken p l e now i h))
 
 module _ (p : SlotPool) (l : List ℕ) where
   pub call-short : (f : Frame) → length l < enoughRoom → call p l f ≡ world p l (Refused OutputShort)

@@ -7,11 +7,10 @@ ghost use Rattle.definition.specs.Refusals.{enoughRoom};
 ghost use Rattle.definition.specs.Steps.{_to_holds_};
 ghost use Rattle.slots.specs.View.{given, before, after, withClock};
 ghost use Rattle.slots.specs.Done.{Done};
-ghost use Rattle.slots.specs.Slots.{handle, event};
+ghost use Rattle.slots.specs.Slots.{event};
 ghost use Rattle.slots.specs.Call.{target, world, step, call};
 ghost use Rattle.refinement.specs.Stands.{Formed};
 ghost use Rattle.refinement.specs.Tests.{Passed};
-ghost use Rattle.event.specs.Asks.{Asks};
 use acts::Progress;
 use definition::Event;
 use definition::Frame;
@@ -46,125 +45,6 @@ fn is_serviced(kind: u8) -> bool
     kind <= 11
 }
 
-// The event's own step, on the slot or the waiter that it names; the clock is the event's.
-pub fn handle(
-    head: Head,
-    numbers: &mut Numbers,
-    times: &mut Times,
-    states: &mut States,
-    waiters: &mut Waiters,
-    out: &mut [u8],
-    e: Event,
-    i: usize,
-) -> Progress
-    requires { ⌜ Asks e i (given head numbers times states waiters) × (enoughRoom ≤ length (now out)) ⌝ }
-    ensures { λ r. ⌜ Done (handle e i (before head numbers times states waiters)) (head .serial) 0 (now (out .entry)) (after (r .head) numbers times states waiters) (r .count) (now (out .exit)) ⌝ }
-{
-    match e {
-        Event::CheckOut(id) => steps::request(
-            head,
-            numbers,
-            times,
-            states,
-            waiters,
-            out,
-            0,
-            id,
-            false,
-        ),
-        Event::WarmPool(id) => steps::request(head, numbers, times, states, waiters, out, 0, id, true),
-        Event::Abandon(_) => {
-            steps::abandon(head, numbers, times, states, waiters, i);
-            Progress {
-                head: head,
-                count: 0,
-            }
-        }
-        Event::CheckIn(_, errored, executing, let_go) => steps::check_in(
-            head,
-            numbers,
-            times,
-            states,
-            waiters,
-            out,
-            0,
-            i,
-            errored,
-            executing,
-            let_go,
-        ),
-        Event::Clear(timeout, cause) => upkeep::clear(
-            head,
-            numbers,
-            times,
-            states,
-            waiters,
-            out,
-            timeout,
-            cause,
-        ),
-        Event::MarkAsReady => upkeep::mark_as_ready(head, numbers, times, states, waiters, out, 0),
-        Event::Succeeded(_) => steps::handle_connection_succeeded(
-            head,
-            numbers,
-            times,
-            states,
-            waiters,
-            out,
-            0,
-            i,
-        ),
-        Event::SucceededForPool(_, opened) => steps::handle_connection_succeeded_for_pool(
-            head,
-            numbers,
-            times,
-            states,
-            waiters,
-            out,
-            0,
-            i,
-            opened,
-        ),
-        Event::Failed(_) => steps::handle_connection_failed(
-            head,
-            numbers,
-            times,
-            states,
-            waiters,
-            out,
-            0,
-            i,
-        ),
-        Event::Maintenance => upkeep::perform_maintenance(head, numbers, times, states, waiters, out),
-        Event::FillPool => Progress {
-            head: head,
-            count: 0,
-        },
-        Event::Pin(_) => {
-            acts::set_state(head, numbers, times, states, waiters, i, 3);
-            Progress {
-                head: head,
-                count: 0,
-            }
-        }
-        Event::ReturnToPinner(_) => {
-            acts::set_state(head, numbers, times, states, waiters, i, 4);
-            Progress {
-                head: head,
-                count: 0,
-            }
-        }
-        Event::TakeFromPinner(_) => {
-            acts::set_state(head, numbers, times, states, waiters, i, 3);
-            Progress {
-                head: head,
-                count: 0,
-            }
-        }
-        Event::Close => upkeep::shut(head, numbers, times, states, waiters, out),
-    }
-}
-
 // An event that no test refuses: its own step at its time, then, once, the service stage.
 pub fn event(
     head: Head,
@@ -182,7 +62,7 @@ pub fn event(
 {
     let mut h = head;
     h.clock = time;
-    let c = handle(h, numbers, times, states, waiters, out, e, i);
+    let c = dispatch::handle(h, numbers, times, states, waiters, out, e, i);
     if is_serviced(verdict::kind_no(e)) {
         let g = c.head;
         let n = c.count;

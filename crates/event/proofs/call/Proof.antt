@@ -1,8 +1,6 @@
-use mathlib.Core.Path.{_≡_, refl, sym, ap, _∙_}
+use mathlib.Core.Path.{_≡_, sym}
 use denote.Ref.{now}
-use Rattle.definition.specs.declared.Frame.{Frame}
-use Rattle.slots.specs.View.{poolOf}
-use Rattle.slots.specs.Call.{call}
+use Rattle.slots.specs.View.{SlotPool, poolOf}
 use Rattle.event.specs.Laws.{call-short, call-good, call-bad}
 use borrow.Author.Needs.{needs}
 use Rattle.event.proofs.call.Statement.{statement}
@@ -11,10 +9,12 @@ use Rattle.event.proofs.call.Reads as reads
 use Rattle.event.proofs.call.Lts as lts
 use Rattle.event.proofs.step.Reads as step-reads
 
+-- the pool that is lent
+abbrev lent : tie.Start → SlotPool
+lent s = let a = s .args in poolOf (a .head) (now (a .numbers)) (now (a .times)) (now (a .states)) (now (a .waiters))
+
 returns : tie.Need-returns
-returns c =
-    let a = c .before .before .args in
-    sym (call-short (poolOf (a .head) (now (a .numbers)) (now (a .times)) (now (a .states)) (now (a .waiters))) (now (a .out)) (a .frame) (c .if1 .taken))
+returns c = let s = c .before .before in sym (call-short (lent s) (now (s .args .out)) (s .args .frame) (c .if1 .taken))
 
 enum-known-frame : tie.Need-enum-known-frame
 enum-known-frame c = search needs
@@ -30,13 +30,14 @@ same-length c = search needs
 
 returns-2 : tie.Need-returns-2
 returns-2 c =
-    let a = c .before .before .before .before .before .before .before .before .before .before .before .before .before .args in
-    rw (c .before .before .before .before .before .before .before .before .before .frame .given .1, call-good (poolOf (a .head) (now (a .numbers)) (now (a .times)) (now (a .states)) (now (a .waiters))) (now (a .out)) _ _ (c .before .before .before .before .before .before .before .before .before .before .before .if1 .left)) (c .before .before .step .ensures)
+    let s = c .before .before .before .before .before .before .before .before .before .before .before .before .before in
+    let known = c .before .before .before .before .before .before .before .before .before in
+    rw (known .frame .given .1, call-good (lent s) (now (s .args .out)) _ _ (known .before .before .if1 .left)) (c .before .before .step .ensures)
 
 returns-3 : tie.Need-returns-3
 returns-3 c =
-    let a = c .before .before .before .before .args in
-    rw (c .enum-told .given .1) (sym (call-bad (poolOf (a .head) (now (a .numbers)) (now (a .times)) (now (a .states)) (now (a .waiters))) (now (a .out)) (c .before .before .if1 .left)))
+    let s = c .before .before .before .before in
+    rw (c .enum-told .given .1) (sym (call-bad (lent s) (now (s .args .out)) (c .before .before .if1 .left)))
 
 pub call-spec : {M : Type 1} → statement M
 call-spec =

@@ -1,16 +1,13 @@
-use mathlib.Core.Path.{_≡_, refl, ap}
-use native.Mathlib.Omega.{arith}
+use mathlib.Core.Path.{_≡_, refl}
 use denote.Ref.{now}
-use Rattle.definition.specs.Steps.{kindNo}
-use Rattle.slots.specs.View.{poolOf}
 use Rattle.slots.specs.DoneLaws.{done-quiet, done-nothing}
 use Rattle.slots.specs.Slots.{handle, abandonAt, setStateAt}
-use Rattle.refinement.specs.Needs.{whole, can-queue, can-close, can-shelve, can-leave}
+use Rattle.dispatch.specs.Asks.{asks-check-out, asks-warm-pool, asks-abandon, asks-check-in, asks-clear, asks-succeeded, asks-succeeded-for-pool, asks-failed, asks-maintenance, asks-pin, asks-return, asks-take}
 use borrow.Author.Needs.{needs}
-use Rattle.event.proofs.handle.Statement.{statement}
-use Rattle.event.proofs.handle.Tie as tie
-use Rattle.event.proofs.handle.Reads as reads
-use Rattle.event.proofs.handle.Lts as lts
+use Rattle.dispatch.proofs.handle.Statement.{statement}
+use Rattle.dispatch.proofs.handle.Tie as tie
+use Rattle.dispatch.proofs.handle.Reads as reads
+use Rattle.dispatch.proofs.handle.Lts as lts
 use Rattle.acts.proofs.set_state.Reads as set-state-reads
 use Rattle.steps.proofs.abandon.Reads as abandon-reads
 use Rattle.steps.proofs.check_in.Reads as check-in-reads
@@ -28,48 +25,50 @@ enum-known-e c = search needs
 
 request-requires : tie.Need-request-requires
 request-requires c κs =
-    let r = c .before .before .before .before .before .before .before .before .before .pre in
-    let st = r .0 .stands in
-    let f = rw (c .before .before .before .before .before .before .e .given .1) at (r .0 .fit) in
-    (whole st, can-queue st (f .room), (omega (arith, r .1), omega arith))
+    let start = c .before .before .before .before .before .before .before .before .before in
+    let a = start .args in
+    let known = c .before .before .before .before .before .before in
+    asks-check-out (a .e) (start .pre .0) (now (a .out)) (start .pre .1) (known .e .given .1)
 
 enum-known-e-2 : tie.Need-enum-known-e-2
 enum-known-e-2 c = search needs
 
 request-requires-2 : tie.Need-request-requires-2
 request-requires-2 c κs =
-    let r = c .before .before .before .before .before .before .before .before .before .pre in
-    let st = r .0 .stands in
-    let f = rw (c .before .before .before .before .before .before .e2 .given .1) at (r .0 .fit) in
-    (whole st, can-queue st (f .room), (omega (arith, r .1), omega arith))
+    let start = c .before .before .before .before .before .before .before .before .before in
+    let a = start .args in
+    let known = c .before .before .before .before .before .before in
+    asks-warm-pool (a .e) (start .pre .0) (now (a .out)) (start .pre .1) (known .e2 .given .1)
 
 enum-told : tie.Need-enum-told
 enum-told c = search needs
 
 abandon-requires : tie.Need-abandon-requires
 abandon-requires c κs =
-    let r = c .before .before .before .before .before .before .before .pre in
-    let st = r .0 .stands in
-    let f = rw (c .before .before .before .before .enum-told .given .1) at (r .0 .fit) in
-    (whole st, omega (arith, f .place, st .alike .queue .fits), f .heard)
+    let start = c .before .before .before .before .before .before .before in
+    let a = start .args in
+    let known = c .before .before .before .before in
+    asks-abandon (a .e) (start .pre .0) (known .enum-told .given .1)
 
 enum-known-e-3 : tie.Need-enum-known-e-3
 enum-known-e-3 c = search needs
 
 check-in-requires : tie.Need-check-in-requires
 check-in-requires c κs =
-    let r = c .before .before .before .before .before .before .before .before .before .pre in
-    let st = r .0 .stands in
-    let f = rw (c .before .before .before .before .before .before .e3 .given .1) at (r .0 .fit) in
-    (whole st, can-close st f, can-shelve st f, (omega (arith, r .1), omega arith))
+    let start = c .before .before .before .before .before .before .before .before .before in
+    let a = start .args in
+    let known = c .before .before .before .before .before .before in
+    asks-check-in (a .e) (start .pre .0) (now (a .out)) (start .pre .1) (known .e3 .given .1)
 
 enum-known-e-4 : tie.Need-enum-known-e-4
 enum-known-e-4 c = search needs
 
 clear-requires : tie.Need-clear-requires
 clear-requires c κs =
-    let r = c .before .before .before .before .before .before .before .before .before .pre in
-    (record { lists = r .0 .lists; stands = r .0 .stands }, r .0 .generation (ap kindNo (c .before .before .before .before .before .before .e4 .given .1)), r .1)
+    let start = c .before .before .before .before .before .before .before .before .before in
+    let a = start .args in
+    let known = c .before .before .before .before .before .before in
+    asks-clear (a .e) (start .pre .0) (now (a .out)) (start .pre .1) (known .e4 .given .1)
 
 enum-told-2 : tie.Need-enum-told-2
 enum-told-2 c = search needs
@@ -82,10 +81,10 @@ enum-told-3 c = search needs
 
 handle-connection-succeeded-requires : tie.Need-handle-connection-succeeded-requires
 handle-connection-succeeded-requires c κs =
-    let r = c .before .before .before .before .before .before .before .before .pre in
-    let st = r .0 .stands in
-    let f = rw (c .before .before .before .before .before .enum-told3 .given .1) at (r .0 .fit) in
-    (whole st, can-leave st f, (omega (arith, r .1), omega arith))
+    let start = c .before .before .before .before .before .before .before .before in
+    let a = start .args in
+    let known = c .before .before .before .before .before in
+    asks-succeeded (a .e) (start .pre .0) (now (a .out)) (start .pre .1) (known .enum-told3 .given .1)
 
 enum-known-e-5 : tie.Need-enum-known-e-5
 enum-known-e-5 c = search needs
@@ -93,28 +92,30 @@ enum-known-e-5 c = search needs
 handle-connection-succeeded-for-pool-requires :
     tie.Need-handle-connection-succeeded-for-pool-requires
 handle-connection-succeeded-for-pool-requires c κs =
-    let r = c .before .before .before .before .before .before .before .before .before .pre in
-    let st = r .0 .stands in
-    let f = rw (c .before .before .before .before .before .before .e5 .given .1) at (r .0 .fit) in
-    (whole st, can-leave st f, (omega (arith, r .1), omega arith))
+    let start = c .before .before .before .before .before .before .before .before .before in
+    let a = start .args in
+    let known = c .before .before .before .before .before .before in
+    asks-succeeded-for-pool (a .e) (start .pre .0) (now (a .out)) (start .pre .1) (known .e5 .given .1)
 
 enum-told-4 : tie.Need-enum-told-4
 enum-told-4 c = search needs
 
 handle-connection-failed-requires : tie.Need-handle-connection-failed-requires
 handle-connection-failed-requires c κs =
-    let r = c .before .before .before .before .before .before .before .before .pre in
-    let st = r .0 .stands in
-    let f = rw (c .before .before .before .before .before .enum-told4 .given .1) at (r .0 .fit) in
-    (whole st, can-leave st f, (omega (arith, r .1), omega arith))
+    let start = c .before .before .before .before .before .before .before .before in
+    let a = start .args in
+    let known = c .before .before .before .before .before in
+    asks-failed (a .e) (start .pre .0) (now (a .out)) (start .pre .1) (known .enum-told4 .given .1)
 
 enum-told-5 : tie.Need-enum-told-5
 enum-told-5 c = search needs
 
 perform-maintenance-requires : tie.Need-perform-maintenance-requires
 perform-maintenance-requires c κs =
-    let r = c .before .before .before .before .before .before .before .before .pre in
-    (record { lists = r .0 .lists; stands = r .0 .stands }, r .0 .ids (ap kindNo (c .before .before .before .before .before .enum-told5 .given .1)), r .1)
+    let start = c .before .before .before .before .before .before .before .before in
+    let a = start .args in
+    let known = c .before .before .before .before .before in
+    asks-maintenance (a .e) (start .pre .0) (now (a .out)) (start .pre .1) (known .enum-told5 .given .1)
 
 enum-told-6 : tie.Need-enum-told-6
 enum-told-6 c = search needs
@@ -124,30 +125,30 @@ enum-told-7 c = search needs
 
 set-state-requires : tie.Need-set-state-requires
 set-state-requires c κs =
-    let r = c .before .before .before .before .before .before .before .pre in
-    let st = r .0 .stands in
-    let f = rw (c .before .before .before .before .enum-told7 .given .1) at (r .0 .fit) in
-    (whole st, f .slot)
+    let start = c .before .before .before .before .before .before .before in
+    let a = start .args in
+    let known = c .before .before .before .before in
+    asks-pin (a .e) (start .pre .0) (known .enum-told7 .given .1)
 
 enum-told-8 : tie.Need-enum-told-8
 enum-told-8 c = search needs
 
 set-state-requires-2 : tie.Need-set-state-requires-2
 set-state-requires-2 c κs =
-    let r = c .before .before .before .before .before .before .before .pre in
-    let st = r .0 .stands in
-    let f = rw (c .before .before .before .before .enum-told8 .given .1) at (r .0 .fit) in
-    (whole st, f .slot)
+    let start = c .before .before .before .before .before .before .before in
+    let a = start .args in
+    let known = c .before .before .before .before in
+    asks-return (a .e) (start .pre .0) (known .enum-told8 .given .1)
 
 enum-told-9 : tie.Need-enum-told-9
 enum-told-9 c = search needs
 
 set-state-requires-3 : tie.Need-set-state-requires-3
 set-state-requires-3 c κs =
-    let r = c .before .before .before .before .before .before .before .pre in
-    let st = r .0 .stands in
-    let f = rw (c .before .before .before .before .enum-told9 .given .1) at (r .0 .fit) in
-    (whole st, f .slot)
+    let start = c .before .before .before .before .before .before .before in
+    let a = start .args in
+    let known = c .before .before .before .before in
+    asks-take (a .e) (start .pre .0) (known .enum-told9 .given .1)
 
 enum-told-10 : tie.Need-enum-told-10
 enum-told-10 c = search needs
@@ -160,14 +161,18 @@ same-length c = search needs
 
 returns : tie.Need-returns
 unfolding handle
-returns c = rw (c .before .before .before .before .before .before .before .before .before .e .given .1) (c .before .before .request .ensures)
+returns c =
+    let known = c .before .before .before .before .before .before .before .before .before in
+    rw (known .e .given .1) (c .before .before .request .ensures)
 
 same-length-2 : tie.Need-same-length-2
 same-length-2 c = search needs
 
 returns-2 : tie.Need-returns-2
 unfolding handle
-returns-2 c = rw (c .before .before .before .before .before .before .before .before .before .e2 .given .1) (c .before .before .request2 .ensures)
+returns-2 c =
+    let known = c .before .before .before .before .before .before .before .before .before in
+    rw (known .e2 .given .1) (c .before .before .request2 .ensures)
 
 returns-3 : tie.Need-returns-3
 unfolding handle abandonAt
@@ -178,49 +183,63 @@ same-length-3 c = search needs
 
 returns-4 : tie.Need-returns-4
 unfolding handle
-returns-4 c = rw (c .before .before .before .before .before .before .before .before .before .e3 .given .1) (c .before .before .check-in .ensures)
+returns-4 c =
+    let known = c .before .before .before .before .before .before .before .before .before in
+    rw (known .e3 .given .1) (c .before .before .check-in .ensures)
 
 same-length-4 : tie.Need-same-length-4
 same-length-4 c = search needs
 
 returns-5 : tie.Need-returns-5
 unfolding handle
-returns-5 c = rw (c .before .before .before .before .before .before .before .before .before .e4 .given .1) (c .before .before .clear .ensures)
+returns-5 c =
+    let known = c .before .before .before .before .before .before .before .before .before in
+    rw (known .e4 .given .1) (c .before .before .clear .ensures)
 
 same-length-5 : tie.Need-same-length-5
 same-length-5 c = search needs
 
 returns-6 : tie.Need-returns-6
 unfolding handle
-returns-6 c = rw (c .before .before .before .before .before .before .before .before .enum-told2 .given .1) (c .before .before .mark-as-ready .ensures)
+returns-6 c =
+    let known = c .before .before .before .before .before .before .before .before in
+    rw (known .enum-told2 .given .1) (c .before .before .mark-as-ready .ensures)
 
 same-length-6 : tie.Need-same-length-6
 same-length-6 c = search needs
 
 returns-7 : tie.Need-returns-7
 unfolding handle
-returns-7 c = rw (c .before .before .before .before .before .before .before .before .enum-told3 .given .1) (c .before .before .handle-connection-succeeded .ensures)
+returns-7 c =
+    let known = c .before .before .before .before .before .before .before .before in
+    rw (known .enum-told3 .given .1) (c .before .before .handle-connection-succeeded .ensures)
 
 same-length-7 : tie.Need-same-length-7
 same-length-7 c = search needs
 
 returns-8 : tie.Need-returns-8
 unfolding handle
-returns-8 c = rw (c .before .before .before .before .before .before .before .before .before .e5 .given .1) (c .before .before .handle-connection-succeeded-for-pool .ensures)
+returns-8 c =
+    let known = c .before .before .before .before .before .before .before .before .before in
+    rw (known .e5 .given .1) (c .before .before .handle-connection-succeeded-for-pool .ensures)
 
 same-length-8 : tie.Need-same-length-8
 same-length-8 c = search needs
 
 returns-9 : tie.Need-returns-9
 unfolding handle
-returns-9 c = rw (c .before .before .before .before .before .before .before .before .enum-told4 .given .1) (c .before .before .handle-connection-failed .ensures)
+returns-9 c =
+    let known = c .before .before .before .before .before .before .before .before in
+    rw (known .enum-told4 .given .1) (c .before .before .handle-connection-failed .ensures)
 
 same-length-9 : tie.Need-same-length-9
 same-length-9 c = search needs
 
 returns-10 : tie.Need-returns-10
 unfolding handle
-returns-10 c = rw (c .before .before .before .before .before .before .before .before .enum-told5 .given .1) (c .before .before .perform-maintenance .ensures)
+returns-10 c =
+    let known = c .before .before .before .before .before .before .before .before in
+    rw (known .enum-told5 .given .1) (c .before .before .perform-maintenance .ensures)
 
 returns-11 : tie.Need-returns-11
 unfolding handle
@@ -243,7 +262,9 @@ same-length-10 c = search needs
 
 returns-15 : tie.Need-returns-15
 unfolding handle
-returns-15 c = rw (c .before .before .before .before .before .before .before .before .enum-told10 .given .1) (c .before .before .shut .ensures)
+returns-15 c =
+    let known = c .before .before .before .before .before .before .before .before in
+    rw (known .enum-told10 .given .1) (c .before .before .shut .ensures)
 
 pub handle-spec : {M : Type 1} → statement M
 handle-spec =

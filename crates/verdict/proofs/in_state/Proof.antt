@@ -1,8 +1,6 @@
-use mathlib.Core.Path.{_≡_, refl}
 use borrow.Author.Tests.{le-leb, lt-leb}
 use Rattle.definition.specs.Words.{if_then_else_}
 use Rattle.definition.specs.Refusals.{first}
-use borrow.Author.Needs.{needs}
 use Rattle.verdict.proofs.in_state.Statement.{statement}
 use Rattle.verdict.proofs.in_state.Tie as tie
 use Rattle.verdict.proofs.in_state.Reads as reads

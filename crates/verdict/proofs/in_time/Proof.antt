@@ -1,5 +1,4 @@
 use Rattle.verdict.specs.Exits.{time-below, time-above, time-later, time-earlier, time-right}
-use borrow.Author.Needs.{needs}
 use Rattle.verdict.proofs.in_time.Statement.{statement}
 use Rattle.verdict.proofs.in_time.Tie as tie
 use Rattle.verdict.proofs.in_time.Reads as reads
@@ -27,7 +26,8 @@ returns-4 c =
     let high = time .before in
     let low = high .before .before in
     let a = low .before .before .args in
-    time-earlier (a .f .at) (a .f .state) (a .low) (a .high) (a .second) (a .f .time) (a .time) (low .if1 .left) (high .if2 .left) (time .if3 .left) (c .if4 .taken)
+    time-earlier (a .f .at) (a .f .state) (a .low) (a .high) (a .second) (a .f .time) (a .time)
+    (low .if1 .left) (high .if2 .left) (time .if3 .left) (c .if4 .taken)
 
 returns-5 : tie.Need-returns-5
 returns-5 c =
@@ -35,7 +35,8 @@ returns-5 c =
     let high = time .before in
     let low = high .before .before in
     let a = low .before .before .args in
-    time-right (a .f .at) (a .f .state) (a .low) (a .high) (a .second) (a .f .time) (a .time) (low .if1 .left) (high .if2 .left) (time .if3 .left) (c .if4 .left)
+    time-right (a .f .at) (a .f .state) (a .low) (a .high) (a .second) (a .f .time) (a .time)
+    (low .if1 .left) (high .if2 .left) (time .if3 .left) (c .if4 .left)
 
 pub in-time-spec : {M : Type 1} → statement M
 in-time-spec = tie.close (tie.spec returns returns-2 returns-3 returns-4 returns-5)

@@ -1,7 +1,5 @@
-use mathlib.Core.Path.{_≡_, refl}
 use borrow.Author.Tests.{eq-eqb, ne-eqb, lt-ltb, le-ltb}
 use Rattle.definition.specs.Refusals.{lastNextId}
-use borrow.Author.Needs.{needs}
 use Rattle.verdict.proofs.numbers_spent.Statement.{statement}
 use Rattle.verdict.proofs.numbers_spent.Tie as tie
 use Rattle.verdict.proofs.numbers_spent.Reads as reads

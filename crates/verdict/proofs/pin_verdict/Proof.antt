@@ -2,7 +2,6 @@ use borrow.Author.Tests.{ne-eqb}
 use Rattle.definition.specs.Words.{if_then_else_}
 use Rattle.definition.specs.Refusals.{first}
 use Rattle.verdict.specs.Laws.{not-pinned}
-use borrow.Author.Needs.{needs}
 use Rattle.verdict.proofs.pin_verdict.Statement.{statement}
 use Rattle.verdict.proofs.pin_verdict.Tie as tie
 use Rattle.verdict.proofs.pin_verdict.Reads as reads

@@ -1,8 +1,6 @@
-use mathlib.Core.Path.{_≡_, refl}
-use Prim.Native.Nat.{_≤_, _<_}
+use Prim.Native.Nat.{_<_}
 use native.Mathlib.Omega.{arith}
 use borrow.Author.Tests.{eq-eqb, ne-eqb, le-leb, lt-leb}
-use borrow.Author.Needs.{needs}
 use Rattle.verdict.proofs.taken_after_close.Statement.{statement}
 use Rattle.verdict.proofs.taken_after_close.Tie as tie
 use Rattle.verdict.proofs.taken_after_close.Reads as reads

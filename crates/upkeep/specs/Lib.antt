@@ -1,2 +1,3 @@
 pub mod Stood
 pub mod Laws
+pub mod Exits

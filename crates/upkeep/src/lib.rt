@@ -1,20 +1,19 @@
 // The steps that go over the whole pool: maintenance, ready, clear and close.
 ghost use mathlib.Core.Path.{_≡_};
-ghost use mathlib.Core.Bool.{true, false};
-ghost use Prim.Native.Nat.{_+_, _-_, _≤_, _<_};
+ghost use Prim.Native.Nat.{_+_, _-_, _≤_};
 ghost use lib.ListN.{length};
 ghost use Rattle.definition.specs.Words.{if_then_else_};
-ghost use Rattle.definition.specs.Refusals.{enoughRoom, lastNextId};
+ghost use Rattle.definition.specs.Refusals.{enoughRoom, lastNextId, lastGeneration};
 ghost use Rattle.slots.specs.View.{given, before, after, Whole};
 ghost use Rattle.slots.specs.Done.{Room, Done};
 ghost use Rattle.slots.specs.Slots.{maintenance, markAsReady, clearedReady, clear, shut};
 ghost use Rattle.upkeep.specs.Stood.{Stood, Said, interrupting};
 use acts::Progress;
 use definition::PoolState;
-use slots::Numbers;
 use slots::Head;
-use slots::Status;
+use slots::Numbers;
 use slots::States;
+use slots::Status;
 use slots::Times;
 use slots::Waiters;
 
@@ -100,7 +99,7 @@ fn flag(b: bool) -> u8
 }
 
 fn next_generation(g: u32) -> u32
-    requires { ⌜ (g ≡ 4294967295 → ⊥) ⌝ }
+    requires { ⌜ (g ≡ lastGeneration → ⊥) ⌝ }
     ensures { λ r. ⌜ r ≡ g + 1 ⌝ }
 {
     g + 1
@@ -118,7 +117,7 @@ fn clear_ready(
     timeout: bool,
     cause: u32,
 ) -> Progress
-    requires { ⌜ Stood (given head numbers times states waiters) × (head .status .generation ≡ 4294967295 → ⊥) × Room (head .«waiting_count» + 1) n (now out) ⌝ }
+    requires { ⌜ Stood (given head numbers times states waiters) × (head .status .generation ≡ lastGeneration → ⊥) × Room (head .«waiting_count» + 1) n (now out) ⌝ }
     ensures { λ r. ⌜ Done (clearedReady timeout cause (before head numbers times states waiters)) (head .serial) n (now (out .entry)) (after (r .head) numbers times states waiters) (r .count) (now (out .exit)) ⌝ }
 {
     let m = head.status;
@@ -152,12 +151,22 @@ pub fn clear(
     timeout: bool,
     cause: u32,
 ) -> Progress
-    requires { ⌜ Stood (given head numbers times states waiters) × (head .status .generation ≡ 4294967295 → ⊥) × (enoughRoom ≤ length (now out)) ⌝ }
+    requires { ⌜ Stood (given head numbers times states waiters) × (head .status .generation ≡ lastGeneration → ⊥) × (enoughRoom ≤ length (now out)) ⌝ }
     ensures { λ r. ⌜ Done (clear timeout cause (before head numbers times states waiters)) (head .serial) 0 (now (out .entry)) (after (r .head) numbers times states waiters) (r .count) (now (out .exit)) ⌝ }
 {
     let m = head.status;
     let k = interrupt(head, out, timeout);
-    let c = clear_ready(head, numbers, times, states, waiters, out, k, timeout, cause);
+    let c = clear_ready(
+        head,
+        numbers,
+        times,
+        states,
+        waiters,
+        out,
+        k,
+        timeout,
+        cause,
+    );
     let mut h = c.head;
     let paused = Status {
         state: PoolState::Paused(cause),

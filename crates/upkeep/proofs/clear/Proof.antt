@@ -1,13 +1,9 @@
-use Rattle.upkeep.specs.Laws.{interrupted-done, interrupting-few, counts}
-use mathlib.Core.Path.{_≡_, refl, sym, ap, _∙_}
-use Prim.Native.Nat.{ℕ, _+_, _-_}
+use Prim.Native.Nat.{_-_}
 use native.Mathlib.Omega.{arith}
 use denote.Ref.{now}
-use Rattle.definition.specs.Steps.{_>>_}
-use Rattle.definition.specs.declared.PoolState.the-variants.{Paused}
-use Rattle.slots.specs.View.{poolOf, withStatus}
-use Rattle.slots.specs.DoneLaws.{done-then, done-quiet}
-use Rattle.slots.specs.Slots.{interrupted, clearedReady, enter, clear}
+use Rattle.slots.specs.View.{SlotPool, poolOf}
+use Rattle.slots.specs.Slots.{lents}
+use Rattle.upkeep.specs.Exits.{lent-counted, interrupt-few, all-cleared}
 use borrow.Author.Needs.{needs}
 use Rattle.upkeep.proofs.clear.Statement.{statement}
 use Rattle.upkeep.proofs.clear.Tie as tie
@@ -17,19 +13,32 @@ use Rattle.upkeep.proofs.clear_ready.Reads as clear-ready-reads
 use Rattle.upkeep.proofs.interrupt.Reads as interrupt-reads
 use Rattle.upkeep.proofs.next_generation.Reads as next-generation-reads
 
+-- the pool that the step is lent
+abbrev lent : tie.Start → SlotPool
+lent s = let a = s .args in poolOf (a .head) (now (a .numbers)) (now (a .times)) (now (a .states)) (now (a .waiters))
+
+-- and the one that it leaves but for its status
+abbrev left : tie.After-clear-ready → SlotPool
+left d = let k = d .clear-ready in poolOf (k .result .head) (k .last .1 .0) (k .last .1 .1 .0) (k .last .1 .1 .1 .0) (k .last .1 .1 .1 .1 .0)
+
+abbrev interrupted : tie.After-clear-ready-arg5 → tie.After-interrupt
+interrupted d = d .before .before .before .before .before .before .before
+
+abbrev start : tie.After-interrupt → tie.Start
+start d = d .before .before .before .before
+
 interrupt-requires : tie.Need-interrupt-requires
 interrupt-requires c κs =
     let r = c .before .before .before .pre in
-    (counts (r .0 .stands), omega (arith, r .2))
+    (lent-counted (r .0 .stands), omega (arith, r .2))
 
 clear-ready-requires : tie.Need-clear-ready-requires
 clear-ready-requires c κs =
-    let r = c .before .before .before .before .before .before .before .before .before .before .before .pre in
-    let a = c .before .before .before .before .before .before .before .before .before .before .before .args in
-    let d = c .before .before .before .before .before .before .before .interrupt .ensures in
+    let d = interrupted c in
+    let r = start d .pre in
+    let few = interrupt-few (start d .args .timeout) (lents (lent (start d))) (d .interrupt .ensures) in
     let w = r .0 .stands .alike .queue .fits in
-    let f = interrupting-few (a .timeout) (a .head .«total_connection_count» - a .head .«available_count» - a .head .«pending_connection_count») in
-    (r .0, r .1, (omega (arith, d .count, f, w, r .2), omega (arith, d .count, f, w)))
+    (r .0, r .1, (omega (arith, few, w, r .2), omega (arith, few, w)))
 
 next-generation-requires : tie.Need-next-generation-requires
 next-generation-requires c κs = search needs
@@ -38,14 +47,11 @@ same-length : tie.Need-same-length
 same-length c = search needs
 
 returns : tie.Need-returns
-unfolding clear enter
 returns c =
-    let a = c .before .before .before .before .before .before .before .before .before .before .before .before .before .before .before .before .args in
-    let p = (poolOf (a .head) (now (a .numbers)) (now (a .times)) (now (a .states)) (now (a .waiters))) in
-    done-then (interrupted (a .timeout)) (clearedReady (a .timeout) (a .cause) >> enter (Paused (a .cause)) (a .head .status .generation + 1)) p p _
-    (interrupted-done (a .timeout) p (c .before .before .before .before .before .before .before .before .before .before .before .before .interrupt .ensures))
-    (done-then (clearedReady (a .timeout) (a .cause)) (enter (Paused (a .cause)) (a .head .status .generation + 1)) p _ _ (c .before .before .before .before .clear-ready .ensures)
-    (done-quiet _ refl (rw (c .next-generation .ensures) refl)))
+    let d = c .before .before .before .before in
+    let i = interrupted (d .before) in
+    let a = start i .args in
+    all-cleared (a .timeout) (a .cause) (lent (start i)) (i .interrupt .ensures) (left d) (d .clear-ready .ensures) (c .next-generation .ensures)
 
 pub clear-spec : {M : Type 1} → statement M
 clear-spec =

@@ -1,13 +1,6 @@
-use mathlib.Core.Path.{_≡_, refl, sym, _∙_}
-use Prim.Native.Nat.{_+_}
 use denote.Ref.{now}
-use Rattle.definition.specs.Words.{if_then_else_}
-use Rattle.definition.specs.Records.{PoolCleared, Cleared}
-use Rattle.definition.specs.Steps.{emit}
-use Rattle.slots.specs.View.{poolOf}
-use Rattle.slots.specs.DoneLaws.{done-then, done-emit, done-as, done-nothing}
-use Rattle.slots.specs.Slots.{tellAll}
-use Rattle.upkeep.specs.Laws.{cleared-ready, cleared-other}
+use Rattle.slots.specs.View.{SlotPool, poolOf}
+use Rattle.upkeep.specs.Exits.{ready-cleared, other-cleared}
 use borrow.Author.Needs.{needs}
 use Rattle.upkeep.proofs.clear_ready.Statement.{statement}
 use Rattle.upkeep.proofs.clear_ready.Tie as tie
@@ -19,6 +12,17 @@ use Rattle.sweeps.proofs.tell_all.Reads as tell-all-reads
 use Rattle.table.proofs.emit.Reads as emit-reads
 use Rattle.upkeep.proofs.flag.Reads as flag-reads
 use Rattle.upkeep.proofs.next_generation.Reads as next-generation-reads
+
+-- the pool that the step is lent
+abbrev lent : tie.Start → SlotPool
+lent s = let a = s .args in poolOf (a .head) (now (a .numbers)) (now (a .times)) (now (a .states)) (now (a .waiters))
+
+-- and the one that it leaves
+abbrev left : tie.After-tell-all → SlotPool
+left d = let k = d .tell-all in poolOf (k .result .head) (k .last .1 .0) (k .last .1 .1 .0) (k .last .1 .1 .1 .0) (k .last .1 .1 .1 .1 .0)
+
+abbrev emitted : tie.After-tell-all → tie.After-emit
+emitted d = d .before .before .before .before .before .before .before .before
 
 is-ready-requires : tie.Need-is-ready-requires
 is-ready-requires c κs = search needs
@@ -45,19 +49,20 @@ same-length : tie.Need-same-length
 same-length c = search needs
 
 returns : tie.Need-returns
-unfolding if_then_else_
 returns c =
-    let a = c .before .before .before .before .before .before .before .before .before .before .before .before .before .before .before .before .before .before .before .args in
-    let r = PoolCleared (a .timeout) (a .cause) (a .head .status .generation + 1) in
-    done-as (cleared-ready (a .timeout) (a .cause) (poolOf (a .head) (now (a .numbers)) (now (a .times)) (now (a .states)) (now (a .waiters))) (sym (c .before .before .before .before .before .before .before .before .before .before .before .before .before .before .before .before .is-ready .ensures) ∙ c .before .before .before .before .before .before .before .before .before .before .before .before .before .before .before .if1 .taken))
-    (done-then (emit r) (tellAll (Cleared (a .cause))) (poolOf (a .head) (now (a .numbers)) (now (a .times)) (now (a .states)) (now (a .waiters))) (poolOf (a .head) (now (a .numbers)) (now (a .times)) (now (a .states)) (now (a .waiters))) _
-    (done-emit r (poolOf (a .head) (now (a .numbers)) (now (a .times)) (now (a .states)) (now (a .waiters))) refl (rw (← c .before .before .before .before .before .before .before .before .before .before .before .next-generation .ensures, ← c .before .before .before .before .before .before .before .before .before .before .before .before .as-u64 .ensures, ← c .before .before .before .before .before .before .before .before .before .before .before .before .before .flag .ensures) (c .before .before .before .before .before .before .before .before .before .before .emit .ensures)))
-    (c .before .before .tell-all .ensures))
+    let told = c .before .before in
+    let said = emitted told in
+    let next = said .before in
+    let ready = next .before .before .before .before in
+    let s = ready .before .before .before .before in
+    ready-cleared (s .args .timeout) (s .args .cause) (lent s) (ready .before .is-ready .ensures) (ready .if1 .taken)
+    (next .before .before .flag .ensures) (next .before .as-u64 .ensures) (next .next-generation .ensures) (said .emit .ensures)
+    (left told) (told .tell-all .ensures)
 
 returns-2 : tie.Need-returns-2
 returns-2 c =
-    let a = c .before .before .before .before .args in
-    done-as (cleared-other (a .timeout) (a .cause) (poolOf (a .head) (now (a .numbers)) (now (a .times)) (now (a .states)) (now (a .waiters))) (sym (c .before .is-ready .ensures) ∙ c .if1 .left)) (done-nothing (poolOf (a .head) (now (a .numbers)) (now (a .times)) (now (a .states)) (now (a .waiters))))
+    let s = c .before .before .before .before in
+    other-cleared (s .args .timeout) (s .args .cause) (lent s) (c .before .is-ready .ensures) (c .if1 .left)
 
 pub clear-ready-spec : {M : Type 1} → statement M
 clear-ready-spec =

@@ -1,6 +1,4 @@
-use mathlib.Core.Path.{_≡_, refl}
 use Rattle.definition.specs.Words.{if_then_else_}
-use borrow.Author.Needs.{needs}
 use Rattle.upkeep.proofs.flag.Statement.{statement}
 use Rattle.upkeep.proofs.flag.Tie as tie
 use Rattle.upkeep.proofs.flag.Reads as reads

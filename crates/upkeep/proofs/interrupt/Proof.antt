@@ -1,6 +1,4 @@
-use mathlib.Core.Path.{_≡_, refl}
-use Rattle.definition.specs.Words.{if_then_else_}
-use Rattle.slots.specs.Done.{lay}
+use Rattle.upkeep.specs.Exits.{interrupt-said, interrupt-unsaid}
 use borrow.Author.Needs.{needs}
 use Rattle.upkeep.proofs.interrupt.Statement.{statement}
 use Rattle.upkeep.proofs.interrupt.Tie as tie
@@ -19,13 +17,12 @@ same-length : tie.Need-same-length
 same-length c = search needs
 
 returns : tie.Need-returns
-unfolding if_then_else_ lay
 returns c =
-    rw (c .before .before .before .before .before .if1 .taken) (record { count = refl; out = rw (← c .before .before .before .before .lent .ensures) (c .before .before .emit .ensures) })
+    let counted = c .before .before .before .before in
+    interrupt-said (counted .before .before .before .args .timeout) _ (counted .before .if1 .taken) (counted .lent .ensures) (c .before .before .emit .ensures)
 
 returns-2 : tie.Need-returns-2
-unfolding if_then_else_ lay
-returns-2 c = rw (c .if1 .left) (record { count = refl; out = refl })
+returns-2 c = interrupt-unsaid (c .before .before .args .timeout) _ (c .if1 .left)
 
 pub interrupt-spec : {M : Type 1} → statement M
 interrupt-spec = tie.close (tie.spec lent-requires emit-requires same-length returns returns-2)

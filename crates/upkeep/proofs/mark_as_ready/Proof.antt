@@ -1,12 +1,6 @@
-use mathlib.Core.Path.{_≡_, refl, sym, _∙_}
 use denote.Ref.{now}
-use Rattle.definition.specs.Records.{PoolReady}
-use Rattle.definition.specs.Steps.{emit, _>>_}
-use Rattle.definition.specs.declared.PoolState.the-variants.{Ready}
-use Rattle.slots.specs.View.{poolOf}
-use Rattle.slots.specs.DoneLaws.{done-then, done-emit, done-quiet, done-as, done-nothing}
-use Rattle.slots.specs.StepLaws.{ready-already, ready-now}
-use Rattle.slots.specs.Slots.{enter}
+use Rattle.slots.specs.View.{SlotPool, poolOf}
+use Rattle.upkeep.specs.Exits.{was-ready, now-ready}
 use borrow.Author.Needs.{needs}
 use Rattle.upkeep.proofs.mark_as_ready.Statement.{statement}
 use Rattle.upkeep.proofs.mark_as_ready.Tie as tie
@@ -15,13 +9,15 @@ use Rattle.upkeep.proofs.mark_as_ready.Lts as lts
 use Rattle.conditions.proofs.is_ready.Reads as is-ready-reads
 use Rattle.table.proofs.emit.Reads as emit-reads
 
+-- the pool that the step is lent
+abbrev lent : tie.Start → SlotPool
+lent s = let a = s .args in poolOf (a .head) (now (a .numbers)) (now (a .times)) (now (a .states)) (now (a .waiters))
+
 is-ready-requires : tie.Need-is-ready-requires
 is-ready-requires c κs = search needs
 
 returns : tie.Need-returns
-returns c =
-    let a = c .before .before .before .before .args in
-    done-as (ready-already (poolOf (a .head) (now (a .numbers)) (now (a .times)) (now (a .states)) (now (a .waiters))) (sym (c .before .is-ready .ensures) ∙ c .if1 .taken)) (done-nothing (poolOf (a .head) (now (a .numbers)) (now (a .times)) (now (a .states)) (now (a .waiters))))
+returns c = was-ready (lent (c .before .before .before .before)) (c .before .is-ready .ensures) (c .if1 .taken)
 
 emit-requires : tie.Need-emit-requires
 emit-requires c κs = search needs
@@ -33,11 +29,9 @@ same-length : tie.Need-same-length
 same-length c = search needs
 
 returns-2 : tie.Need-returns-2
-unfolding enter
 returns-2 c =
-    let a = c .before .before .before .before .before .before .before .before .args in
-    done-as (ready-now (poolOf (a .head) (now (a .numbers)) (now (a .times)) (now (a .states)) (now (a .waiters))) (sym (c .before .before .before .before .before .is-ready .ensures) ∙ c .before .before .before .before .if1 .left))
-    (done-then (emit PoolReady) (enter Ready (a .head .status .generation)) (poolOf (a .head) (now (a .numbers)) (now (a .times)) (now (a .states)) (now (a .waiters))) (poolOf (a .head) (now (a .numbers)) (now (a .times)) (now (a .states)) (now (a .waiters))) _ (done-emit PoolReady (poolOf (a .head) (now (a .numbers)) (now (a .times)) (now (a .states)) (now (a .waiters))) refl (c .before .before .emit .ensures)) (done-quiet _ refl refl))
+    let paused = c .before .before .before .before in
+    now-ready (lent (paused .before .before .before .before)) (paused .before .is-ready .ensures) (paused .if1 .left) (c .before .before .emit .ensures)
 
 pub mark-as-ready-spec : {M : Type 1} → statement M
 mark-as-ready-spec =

@@ -1,15 +1,8 @@
-use mathlib.Core.Path.{_≡_, refl, sym, ap, subst, _∙_}
-use mathlib.Core.Bool.{false}
-use Prim.Native.Nat.{ℕ, _≤_}
 use native.Mathlib.Omega.{arith}
 use denote.Ref.{now}
-use Rattle.slots.specs.View.{SlotPool, poolOf, Whole}
-use Rattle.slots.specs.Needs.{CanFill}
-use Rattle.slots.specs.DoneLaws.{done-then, done-serial}
-use Rattle.slots.specs.Slots.{maintenance, removePerished, ensureMinConnections, prune}
-use Rattle.refinement.specs.Needs.{whole, can-prune, can-fill-after}
-use Rattle.refinement.specs.RecordRoom.{pruned-few}
-use Rattle.refinement.specs.Leaves.{Leaves, prune-leaves}
+use Rattle.slots.specs.View.{SlotPool, poolOf}
+use Rattle.refinement.specs.Needs.{whole, can-prune}
+use Rattle.upkeep.specs.Exits.{pruned-fills, maintained}
 use borrow.Author.Needs.{needs}
 use Rattle.upkeep.proofs.perform_maintenance.Statement.{statement}
 use Rattle.upkeep.proofs.perform_maintenance.Tie as tie
@@ -18,6 +11,24 @@ use Rattle.upkeep.proofs.perform_maintenance.Lts as lts
 use Rattle.sweeps.proofs.ensure_min_connections.Reads as ensure-min-connections-reads
 use Rattle.sweeps.proofs.remove_perished_connections.Reads as remove-perished-connections-reads
 
+-- the pool that the step is lent
+abbrev lent : tie.Start → SlotPool
+lent s = let a = s .args in poolOf (a .head) (now (a .numbers)) (now (a .times)) (now (a .states)) (now (a .waiters))
+
+-- the one in which the perished ones are closed, and the one that the step leaves
+abbrev pruned : tie.After-remove-perished-connections → SlotPool
+pruned d = let k = d .remove-perished-connections in poolOf (k .result .head) (k .last .1 .0) (k .last .1 .1 .0) (k .last .1 .1 .1 .0) (k .last .1 .1 .1 .1 .0)
+
+abbrev filled : tie.After-ensure-min-connections → SlotPool
+filled d = let k = d .ensure-min-connections in poolOf (k .result .head) (k .last .1 .0) (k .last .1 .1 .0) (k .last .1 .1 .1 .0) (k .last .1 .1 .1 .1 .0)
+
+-- from one call to the one before, and to the start
+abbrev pruning : tie.After-ensure-min-connections-arg5 → tie.After-remove-perished-connections
+pruning d = d .before .before .before .before .before .before .before .before
+
+abbrev start : tie.After-remove-perished-connections → tie.Start
+start d = d .before .before .before .before .before .before .before
+
 remove-perished-connections-requires : tie.Need-remove-perished-connections-requires
 remove-perished-connections-requires c κs =
     let r = c .before .before .before .before .before .before .pre in
@@ -25,26 +36,20 @@ remove-perished-connections-requires c κs =
     (whole st, can-prune st, (omega (arith, r .2, st .table .fits), omega (arith, st .table .fits)))
 
 ensure-min-connections-requires : tie.Need-ensure-min-connections-requires
-unfolding removePerished
 ensure-min-connections-requires c κs =
-    let r = c .before .before .before .before .before .before .before .before .before .before .before .before .before .before .before .pre in
-    let a = c .before .before .before .before .before .before .before .before .before .before .before .before .before .before .before .args in
-    let st = r .0 .stands in
-    let d = c .before .before .before .before .before .before .before .before .remove-perished-connections .ensures in
-    let z = subst (λ (x : SlotPool). Whole x × CanFill x) (sym (d .pool)) (can-fill-after st (r .1)) in
-    let f = pruned-few st in
-    (z .0, z .1, (omega (arith, d .count, f, st .table .fits, r .2), omega (arith, d .count, f, st .table .fits)))
+    let k = pruning c in
+    let r = start k .pre in
+    let z = pruned-fills (r .0 .stands) (r .1) (pruned k) (k .remove-perished-connections .ensures) in
+    (z .0, z .1, (omega (arith, z .2, r .2), omega (arith, z .2)))
 
 same-length : tie.Need-same-length
 same-length c = search needs
 
 returns : tie.Need-returns
-unfolding maintenance removePerished
 returns c =
-    let a = c .before .before .before .before .before .before .before .before .before .before .before .before .before .before .before .before .before .before .args in
-    let d = c .before .before .before .before .before .before .before .before .before .before .before .remove-perished-connections .ensures in
-    let l : Leaves false 0 (poolOf (a .head) (now (a .numbers)) (now (a .times)) (now (a .states)) (now (a .waiters))) (prune (a .head .«available_count») (poolOf (a .head) (now (a .numbers)) (now (a .times)) (now (a .states)) (now (a .waiters)))) = prune-leaves (a .head .«available_count») (poolOf (a .head) (now (a .numbers)) (now (a .times)) (now (a .states)) (now (a .waiters))) in
-    done-then removePerished ensureMinConnections (poolOf (a .head) (now (a .numbers)) (now (a .times)) (now (a .states)) (now (a .waiters))) _ _ d (done-serial (ap (λ (x : SlotPool). x .serial) (d .pool) ∙ l .serial) (c .before .before .ensure-min-connections .ensures))
+    let d = c .before .before in
+    let k = pruning (d .before) in
+    maintained (lent (start k)) (pruned k) (filled d) (k .remove-perished-connections .ensures) (d .ensure-min-connections .ensures)
 
 pub perform-maintenance-spec : {M : Type 1} → statement M
 perform-maintenance-spec =

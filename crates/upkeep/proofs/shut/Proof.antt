@@ -1,18 +1,11 @@
-use Rattle.upkeep.specs.Laws.{closeFront-serial, tells, told-serial, told-few}
-use mathlib.Core.Path.{_≡_, refl, sym, ap, subst, _∙_}
-use Prim.Native.Nat.{ℕ, _≤_}
+use mathlib.Core.Path.{refl}
+use Prim.Native.Nat.{_+_, _≤_}
 use native.Mathlib.Omega.{arith}
 use denote.Ref.{now}
-use Rattle.definition.specs.Words.{if_then_else_}
-use Rattle.definition.specs.Records.{PoolShut, Gone}
-use Rattle.definition.specs.Steps.{emit, _>>_}
-use Rattle.definition.specs.declared.PoolState.the-variants.{Closed}
-use Rattle.slots.specs.View.{SlotPool, poolOf, Whole, after}
-use Rattle.slots.specs.Needs.{CanTell}
-use Rattle.slots.specs.DoneLaws.{done-then, done-emit, done-quiet, done-serial}
-use Rattle.slots.specs.Slots.{shut, closeFront, tellAll, enter}
-use Rattle.refinement.specs.Needs.{whole, can-prune, can-tell-after}
-use Rattle.refinement.specs.RecordRoom.{closed-few}
+use Rattle.definition.specs.Pool.{slotCount, queueLength}
+use Rattle.slots.specs.View.{SlotPool, poolOf}
+use Rattle.refinement.specs.Needs.{whole, can-prune}
+use Rattle.upkeep.specs.Exits.{closed-tells, told-room, all-shut}
 use borrow.Author.Needs.{needs}
 use Rattle.upkeep.proofs.shut.Statement.{statement}
 use Rattle.upkeep.proofs.shut.Tie as tie
@@ -22,6 +15,30 @@ use Rattle.sweeps.proofs.close_available.Reads as close-available-reads
 use Rattle.sweeps.proofs.tell_all.Reads as tell-all-reads
 use Rattle.table.proofs.emit.Reads as emit-reads
 
+-- the pool that the step is lent
+abbrev lent : tie.Start → SlotPool
+lent s = let a = s .args in poolOf (a .head) (now (a .numbers)) (now (a .times)) (now (a .states)) (now (a .waiters))
+
+-- the one in which the available ones are closed, and the one in which the waiters are told
+abbrev closed : tie.After-close-available → SlotPool
+closed d = let k = d .close-available in poolOf (k .result .head) (k .last .1 .0) (k .last .1 .1 .0) (k .last .1 .1 .1 .0) (k .last .1 .1 .1 .1 .0)
+
+abbrev told : tie.After-tell-all → SlotPool
+told d = let k = d .tell-all in poolOf (k .result .head) (k .last .1 .0) (k .last .1 .1 .0) (k .last .1 .1 .1 .0) (k .last .1 .1 .1 .1 .0)
+
+-- from one call to the one before, and to the start
+abbrev closing : tie.After-tell-all-arg5 → tie.After-close-available
+closing d = d .before .before .before .before .before .before .before .before
+
+abbrev start : tie.After-close-available → tie.Start
+start d = d .before .before .before .before .before .before .before .before
+
+-- all but the last record are written
+few : (d : tie.After-tell-all) → d .tell-all .result .count ≤ slotCount + queueLength
+few d =
+    let k = closing (d .before) in
+    told-room (start k .pre .0 .stands) (closed k) (k .close-available .ensures) _ (told d) (d .tell-all .ensures)
+
 close-available-requires : tie.Need-close-available-requires
 close-available-requires c κs =
     let r = c .before .before .before .before .before .before .before .pre in
@@ -30,58 +47,27 @@ close-available-requires c κs =
 
 tell-all-requires : tie.Need-tell-all-requires
 tell-all-requires c κs =
-    let r = c .before .before .before .before .before .before .before .before .before .before .before .before .before .before .before .before .pre in
-    let a = c .before .before .before .before .before .before .before .before .before .before .before .before .before .before .before .before .args in
-    let st = r .0 .stands in
-    let d = c .before .before .before .before .before .before .before .before .close-available .ensures in
-    let z = tells st _ (d .pool) in
-    let f = closed-few st in
-    let w = z .1 .fits in
-    (z .0, z .1, record { kinds = (omega arith, omega arith); zero = (λ _. refl, λ _. refl) }, (omega (arith, d .count, f, w, st .table .fits, r .1), omega (arith, d .count, f, w, st .table .fits)))
+    let k = closing c in
+    let r = start k .pre in
+    let z = closed-tells (r .0 .stands) (closed k) (k .close-available .ensures) in
+    (z .0, z .1, record { kinds = (omega arith, omega arith); zero = (λ _. refl, λ _. refl) }, (omega (arith, z .2, r .1), omega (arith, z .2)))
 
 emit-requires : tie.Need-emit-requires
-unfolding if_then_else_
 emit-requires c κs =
-    let r = c .before .before .before .before .before .before .before .before .before .before .before .before .before .before .before .before .before .before .before .before .before .pre in
-    let a = c .before .before .before .before .before .before .before .before .before .before .before .before .before .before .before .before .before .before .before .before .before .args in
-    let st = r .0 .stands in
-    let d = c .before .before .before .before .before .before .before .before .before .before .before .before .before .close-available .ensures in
-    let d2 = c .before .before .before .before .tell-all .ensures in
-    let f = closed-few st in
-    let g = told-few _ _ d2 in
-    let w = tells st _ (d .pool) .1 .fits in
-    omega (arith, d .count, f, g, w, st .table .fits, r .1)
+    let d = c .before .before .before .before in
+    omega (arith, few d, start (closing (d .before)) .pre .1)
 
 add-t30 : tie.Need-add-t30
-unfolding if_then_else_
-add-t30 c =
-    let r = c .before .before .before .before .before .before .before .before .before .before .before .before .before .before .before .before .before .before .before .before .before .before .before .before .pre in
-    let a = c .before .before .before .before .before .before .before .before .before .before .before .before .before .before .before .before .before .before .before .before .before .before .before .before .args in
-    let st = r .0 .stands in
-    let d = c .before .before .before .before .before .before .before .before .before .before .before .before .before .before .before .before .close-available .ensures in
-    let d2 = c .before .before .before .before .before .before .before .tell-all .ensures in
-    let f = closed-few st in
-    let g = told-few _ _ d2 in
-    let w = tells st _ (d .pool) .1 .fits in
-    omega (arith, d .count, f, g, w, st .table .fits)
+add-t30 c = omega (arith, few (c .before .before .before .before .before .before .before))
 
 same-length : tie.Need-same-length
 same-length c = search needs
 
 returns : tie.Need-returns
-unfolding shut if_then_else_ enter
 returns c =
-    let a = c .before .before .before .before .before .before .before .before .before .before .before .before .before .before .before .before .before .before .before .before .before .before .before .before .args in
-    let p = (poolOf (a .head) (now (a .numbers)) (now (a .times)) (now (a .states)) (now (a .waiters))) in
-    let n = a .head .«available_count» in
-    let g = a .head .status .generation in
-    let d = c .before .before .before .before .before .before .before .before .before .before .before .before .before .before .before .before .close-available .ensures in
-    let d2 = c .before .before .before .before .before .before .before .tell-all .ensures in
-    let e : c .before .before .before .before .before .before .before .before .before .before .before .before .before .before .before .before .close-available .result .head .serial ≡ a .head .serial = ap (λ (x : SlotPool). x .serial) (d .pool) ∙ closeFront-serial n p in
-    let e2 : c .before .before .before .before .before .before .before .tell-all .result .head .serial ≡ a .head .serial = told-serial _ _ _ (d2 .pool) ∙ e in
-    done-then (closeFront n) (tellAll Gone >> emit PoolShut >> enter Closed g) p _ _ d
-    (done-then (tellAll Gone) (emit PoolShut >> enter Closed g) _ _ _ (done-serial e d2)
-    (done-then (emit PoolShut) (enter Closed g) _ _ _ (done-emit PoolShut _ refl (rw e2 at (c .before .before .emit .ensures))) (done-quiet _ refl refl)))
+    let d = c .before .before .before .before .before .before .before in
+    let k = closing (d .before) in
+    all-shut (lent (start k)) (closed k) (told d) (k .close-available .ensures) (d .tell-all .ensures) (c .before .before .emit .ensures)
 
 pub shut-spec : {M : Type 1} → statement M
 shut-spec =

@@ -45,7 +45,9 @@ part-finish-end : tie.Need-part-finish-end
 part-finish-end c = search needs
 
 finish-requires : tie.Need-finish-requires
-finish-requires c κs = search needs
+finish-requires c κs =
+    let k = c .before .before .before .before .before .before .before .before .before .before .before .before .before .before .replay-some in
+    (k .ensures .kept, search needs, simp (length-take, length-drop) (omega (arith, c .before .before .before .before .before .before .if2 .taken, k .ensures .fits)))
 
 add-t38 : tie.Need-add-t38
 add-t38 c =

@@ -9,20 +9,16 @@ use lib.ListN.{length, drop, replicate, length-append, length-replicate}
 use Rattle.refinement.specs.Table.{and-both}
 use Rattle.definition.specs.Words.{if_then_else_, _=?_, _≤?_, _<?_}
 use Rattle.definition.specs.Day.{logOf, framesUsed}
-use Rattle.definition.specs.declared.Options.{Options}
-use Rattle.refinement.specs.Alike.{freshSlots}
+use Rattle.definition.specs.Refusals.{enoughRoom}
+use Rattle.refinement.specs.Formed.{freshSlots}
+use Rattle.lines.specs.Machine.{Took, lineRoom}
+use Rattle.lines.specs.OnSlots.{Play, onSlots}
+use Rattle.pieces.specs.Feed.{Fed, stop, joined, goOn, finish}
+use Rattle.runs.specs.Code.{noOptions}
+use Rattle.session.specs.Code.{opening}
 use Rattle.replay.specs.declared.Day.{Day}
-use Rattle.replay.specs.Feed.{Took, Machine, View, Fed, lineRoom, stop, joined, emptied, lineAt, push, feed, feed-nil, feedIn, goOn, andThen, ended, finish, some-reads}
-use Rattle.replay.specs.Chunks.{go-stops}
-use Rattle.replay.specs.OnSlots.{Play, onSlots}
-use Rattle.replay.specs.Meaning.{begun, Writes, feed-writes}
-
--- before the first byte, with a blank pool in the pool's place
-abbrev pub blank : Options
-blank = record { maximum = 0; minimum = 0; connecting = 0; idle = 0 }
-
-abbrev pub opening : (budget : ℕ) → View Play
-opening budget = emptied (begun budget (freshSlots blank) (replicate 8192 0))
+use Rattle.replay.specs.Calls.{feed, feed-nil, andThen, ended, some-reads, go-stops}
+use Rattle.replay.specs.Meaning.{Writes, feed-writes}
 
 -- what a call says, and whether that is all
 pub record Underway : Type 0 where
@@ -48,7 +44,7 @@ pub record Logged (t : Underway) (before after : List ℕ) (d : Day) : Type 0 wh
 -- ── What is said is the definition's log, where it is all ──────────────────────────────────────────────────────────────────
 
 opening-writes : (budget : ℕ) (text : List ℕ) → Writes (ended onSlots (feed onSlots (opening budget) text)) budget text
-opening-writes budget text = feed-writes budget (freshSlots blank) (replicate 8192 0) text (simp length-replicate (omega arith))
+opening-writes budget text = feed-writes budget (freshSlots noOptions) (replicate enoughRoom 0) text (simp length-replicate (omega arith))
 
 all-read : (k : Fed Play ℕ) → k .rest ≡ [] → ended onSlots (andThen onSlots k (k .rest)) ≡ ended onSlots k
 all-read k e = ap (λ (x : List ℕ). ended onSlots (andThen onSlots k x)) e ∙ ap (λ (f : Fed Play ℕ). ended onSlots (joined (k .out) f)) (feed-nil onSlots (k .view)) ∙ done k

@@ -1,11 +1,8 @@
-pub mod Feed
+pub mod Calls
 pub mod Whole
 pub mod Lists
 pub mod Laying
-pub mod OnSlots
 pub mod Meaning
-pub mod Chunks
-pub mod Code
-pub mod Resumed
 pub mod Days
 pub mod Once
+pub mod Exits

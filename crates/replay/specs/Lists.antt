@@ -17,8 +17,11 @@ use Rattle.definition.specs.Day.{Entry, RefusedLine, entriesOf, frames, Day, da
 use Rattle.definition.specs.declared.Options.{Options}
 use Rattle.definition.specs.declared.Refusal.{Refusal}
 use Rattle.definition.specs.declared.Refusal.the-variants.{Malformed}
-use Rattle.replay.specs.Feed.{Took, Machine, View, Fed, Lend, heldMost, quiet, thereafter, emptied, feed, ended, calls, calls-whole}
-use Rattle.replay.specs.Whole.{Tame, lines, frame-cap, options-cap, text-lines}
+use Rattle.lines.specs.Machine.{Took, Machine, quiet, thereafter}
+use Rattle.pieces.specs.Feed.{heldMost, emptied}
+use Rattle.pieces.specs.Cap.{frame-cap, options-cap}
+use Rattle.replay.specs.Calls.{Lend, feed, ended, calls, calls-whole}
+use Rattle.replay.specs.Whole.{Tame, lines, text-lines}
 
 -- before the options line; with a pool; after bad options
 pub data Stage : Type 0 where

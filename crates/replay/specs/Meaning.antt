@@ -29,16 +29,19 @@ use Rattle.refinement.specs.Call.{Refines, call-refines, refines-stands}
 use Rattle.refinement.specs.Alike.{freshSlots}
 use Rattle.refinement.specs.Formed.{fresh-stands}
 use Rattle.text.specs.Printed.{printed}
-use Rattle.replay.specs.declared.Phase.{Phase}
-use Rattle.replay.specs.declared.Phase.the-variants as phase
-use Rattle.replay.specs.Feed.{Took, Machine, View, Fed, Lend, quiet, thereafter, emptied, feed, ended, calls, calls-whole}
-use Rattle.replay.specs.Whole.{lines, text-lines}
+use Rattle.refinement.specs.RecordRoom.{FewIn, call-few}
+use Rattle.lines.specs.declared.Phase.{Phase}
+use Rattle.lines.specs.declared.Phase.the-variants as phase
+use Rattle.lines.specs.Machine.{Took, quiet}
+use Rattle.lines.specs.OnSlots as P
+use Rattle.lines.specs.OnSlots.{Play, refusedLine, saidOf, lineSlots, lastSlots, onSlots}
+use Rattle.pieces.specs.Feed.{Fed, emptied}
+use Rattle.session.specs.Code.{begun}
+use Rattle.replay.specs.Calls.{Lend, feed, ended, calls, calls-whole}
+use Rattle.replay.specs.Whole.{lines, text-lines, slots-tame}
 use Rattle.replay.specs.Lists as L
 use Rattle.replay.specs.Lists.{Lists, Stage, First, Going, Ended, onLists, start, day-lines}
-use Rattle.refinement.specs.RecordRoom.{FewIn, call-few}
 use Rattle.replay.specs.Laying.{printed-lay, length-lay}
-use Rattle.replay.specs.OnSlots as P
-use Rattle.replay.specs.OnSlots.{Play, refusedLine, saidOf, lineSlots, lastSlots, onSlots, slots-tame}
 
 -- ── A state on slots stands for one on lists ───────────────────────────────────────────────────────────────────────────────
 
@@ -185,10 +188,6 @@ lines-say s t (l ∷ ls) h =
     record { plays = b .plays; text = ap (λ (x : List ℕ). x ++ lines onSlots (lineSlots s l .state) ls .out) (a .text) ∙ ap (λ (x : List ℕ). textOf (onLists .line t l .out) ++ x) (b .text) ∙ sym (text-append _ _) }
 
 -- ── The theorem ────────────────────────────────────────────────────────────────────────────────────────────────────────────
-
--- before the options line, whatever stands in the pool's place
-abbrev pub begun : (budget : ℕ) → SlotPool → (scratch : List ℕ) → Play
-begun budget p l = record { phase = phase.First; used = 0; budget = budget; pool = p; scratch = l }
 
 -- what is written, and the frames used, are the definition's
 pub record Writes (k : Took Play ℕ) (budget : ℕ) (text : List ℕ) : Type 0 where

@@ -7,13 +7,16 @@ use native.Mathlib.Omega.{arith}
 use lib.ListN.{length, take, drop, replicate, take-append-drop, length-drop}
 use lib.Seq.{length-take-le}
 use Rattle.slots.specs.View.{SlotPool}
-use Rattle.replay.specs.declared.Phase.{Phase}
-use Rattle.replay.specs.declared.Pace.{Pace}
-use Rattle.replay.specs.declared.Run.{Run}
+use Rattle.lines.specs.declared.Phase.{Phase}
+use Rattle.lines.specs.declared.Pace.{Pace}
+use Rattle.lines.specs.Machine.{Took}
+use Rattle.lines.specs.OnSlots.{Play}
+use Rattle.lines.specs.Code.{Lined}
+use Rattle.pieces.specs.Feed.{View, Fed, heldMost}
+use Rattle.pieces.specs.Code.{Holds}
+use Rattle.runs.specs.declared.Run.{Run}
+use Rattle.runs.specs.Code.{viewOf, Read}
 use Rattle.replay.specs.declared.Day.{Day}
-use Rattle.replay.specs.Feed.{Took, View, Fed, heldMost}
-use Rattle.replay.specs.OnSlots.{Play}
-use Rattle.replay.specs.Code.{viewOf, Holds, Lined, Read}
 use Rattle.replay.specs.Days.{Underway, Logged}
 
 same-laid : (x b : List ℕ) {n n' : ℕ} {a a' : List ℕ} → n ≡ n' → a ≡ x ++ drop n b → a' ≡ x ++ drop n' b → a ≡ a'

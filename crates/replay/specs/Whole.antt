@@ -2,48 +2,23 @@
 use mathlib.Core.Path.{_≡_, refl, sym, ap, _∙_}
 use mathlib.Core.Bool.{Bool, true, false}
 use mathlib.Core.List.{List, [], _∷_, _++_, append-assoc, append-nil}
-use Prim.Native.Nat.{ℕ, zero, suc, _<_}
-use native.Mathlib.Omega.{arith}
-use lib.ListN.{length, take, length-take}
-use lib.Seq.{take-all}
-use lib.Dec.{leb}
-use borrow.Author.Tests.{leb-true, leb-false, ne-eqb}
-use Rattle.definition.specs.Words.{if_then_else_, _=?_}
-use Rattle.definition.specs.Bytes.{newline, bytesOf, frameOfLine, optionsOfLine, orBad, orNone}
+use mathlib.Core.Option.{Option, none, some}
+use Prim.Native.Nat.{ℕ}
+use lib.ListN.{take}
+use Rattle.definition.specs.Words.{if_then_else_, _<?_, _=?_}
+use Rattle.definition.specs.Pool.{withDefaults, inRange}
+use Rattle.definition.specs.Bytes.{newline, frameOfLine, optionsOfLine}
 use Rattle.definition.specs.Day.{before, linesOf}
-use mathlib.Core.Option.{none}
-use Rattle.replay.specs.Feed.{Took, Machine, View, Fed, heldMost, quiet, thereafter, stop, joined, emptied, push, lineAt, feed, feed-true, feed-false, feed-nil, finish, ended}
-
--- ── A long line: its first 50 bytes tell that it is malformed ──────────────────────────────────────────────────────────────
-
-no-bytes : (l : List ℕ) → (length l ≡ 49 → ⊥) → bytesOf l ≡ none
-unfolding bytesOf if_then_else_
-no-bytes l h = rw (ne-eqb (length l) 49 h)
-
-pub bytes-cap : (l : List ℕ) → bytesOf (take heldMost l) ≡ bytesOf l
-bytes-cap l = go (leb (length l) heldMost) refl
-  where
-    go : (b : Bool) → leb (length l) heldMost ≡ b → bytesOf (take heldMost l) ≡ bytesOf l
-    go true e = ap bytesOf (take-all heldMost l (leb-true (length l) heldMost e))
-    go false e =
-        let h : heldMost < length l = leb-false (length l) heldMost e in
-        let n : length (take heldMost l) ≡ heldMost = simp length-take (omega arith) in
-        no-bytes (take heldMost l) (λ z. omega arith) ∙ sym (no-bytes l (λ z. omega arith))
-
-pub frame-cap : (l : List ℕ) → frameOfLine (take heldMost l) ≡ frameOfLine l
-unfolding frameOfLine
-frame-cap l = ap orBad (bytes-cap l)
-
-pub options-cap : (l : List ℕ) → optionsOfLine (take heldMost l) ≡ optionsOfLine l
-unfolding optionsOfLine
-options-cap l = ap orNone (bytes-cap l)
-
-pub cap-append : (n : ℕ) (x y : List ℕ) → take n (take n x ++ y) ≡ take n (x ++ y)
-cap-append zero x y = refl
-cap-append (suc n) [] y = refl
-cap-append (suc n) (a ∷ x) y = ap (λ (l : List ℕ). a ∷ l) (cap-append n x y)
-
--- ── Lines ──────────────────────────────────────────────────────────────────────────────────────────────────────────────
+use Rattle.definition.specs.declared.Options.{Options}
+use Rattle.definition.specs.declared.Refusal.the-variants.{OptionsOutOfRange}
+use Rattle.slots.specs.Call.{call}
+use Rattle.lines.specs.declared.Phase.{Phase}
+use Rattle.lines.specs.declared.Phase.the-variants.{First, Going, Ended}
+use Rattle.lines.specs.Machine.{Took, Machine, quiet, thereafter}
+use Rattle.lines.specs.OnSlots.{Play, options, ready, badly, answered, lineIn, lastIn, lineSlots, lastSlots, onSlots}
+use Rattle.pieces.specs.Feed.{View, Fed, heldMost, stop, joined, emptied, push, lineAt, finish}
+use Rattle.pieces.specs.Cap.{cap-append, line-cap}
+use Rattle.replay.specs.Calls.{feed, feed-true, feed-false, feed-nil, ended}
 
 -- lines of a text before which h stands
 abbrev pub onto : List ℕ → List (List ℕ) → List (List ℕ)
@@ -134,3 +109,35 @@ module _ {S O : Type 0} (m : Machine S O) (tame : Tame m) where
   -- a whole text
   pub text-lines : (s : S) (t : List ℕ) → ended m (feed m (emptied s) t) ≡ lines m s (linesOf t)
   text-lines s t = feed-lines s [] t
+
+-- ── The machine on slots is tame ───────────────────────────────────────────────────────────────────────────────────────────
+
+abbrev Over : Took Play ℕ → Type 0
+Over k = lastSlots (k .state) ≡ quiet (k .state)
+
+if-over : (b : Bool) (j k : Took Play ℕ) → Over j → Over k → Over (if b then j else k)
+unfolding if_then_else_
+if-over true j k g h = g
+if-over false j k g h = h
+
+options-over : (s : Play) (x : Option Options) → Over (options s x)
+unfolding lastSlots
+options-over s none = refl
+options-over s (some o) = if-over (inRange (withDefaults o)) (ready s (withDefaults o)) (badly s OptionsOutOfRange) refl refl
+
+quiet-over : (s : Play) (g : Phase) → s .phase ≡ g → lastIn s g ≡ quiet s → Over (quiet s)
+unfolding lastSlots
+quiet-over s g e h = ap (lastIn s) e ∙ h
+
+phase-over : (s : Play) (g : Phase) → s .phase ≡ g → (l : List ℕ) → Over (lineIn s g l)
+unfolding lastSlots
+phase-over s First e l = options-over s (optionsOfLine l)
+phase-over s Going e l = if-over (s .used <? s .budget) (answered s (call (s .pool) (s .scratch) (frameOfLine l))) (quiet s) refl (quiet-over s Going e refl)
+phase-over s Ended e l = quiet-over s Ended e refl
+
+line-over : (s : Play) (l : List ℕ) → Over (lineSlots s l)
+unfolding lineSlots
+line-over s l = phase-over s (s .phase) refl l
+
+pub slots-tame : Tame onSlots
+slots-tame = record { cap = line-cap; over = line-over }

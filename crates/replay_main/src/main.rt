@@ -5,29 +5,18 @@
 // A budget of N takes at most N frames; without one, all are taken. --used tells the frames used on standard error.
 ghost use Prim.Native.Nat.{_≤_};
 ghost use lib.ListN.{length};
-ghost use Rattle.definition.specs.Refusals.{enoughRoom};
-ghost use Rattle.slots.specs.View.{given, before, after};
-ghost use Rattle.replay.specs.Feed.{lineRoom};
-ghost use Rattle.replay.specs.Code.{Kept};
-use definition::QUEUE;
-use definition::ROOM;
-use definition::SLOTS;
+ghost use Rattle.lines.specs.Machine.{lineRoom};
+ghost use Rattle.session.specs.Code.{Ready};
 use libc::STDERR_FILENO;
 use libc::STDIN_FILENO;
 use libc::STDOUT_FILENO;
-use replay::Run;
-use slots::Head;
-use slots::Numbers;
-use slots::States;
-use slots::Times;
-use slots::Waiters;
+use session::Session;
 
-// ── The run ──
+// ── The day ──
 
 // What a piece of the text leaves, and whether to go on; if not, whether all was read and written.
 struct Step {
-    run: Run,
-    head: Head,
+    day: Session,
     more: bool,
     good: bool,
 }
@@ -41,42 +30,19 @@ fn put(bytes: &[u8]) -> bool {
 }
 
 // A piece of the text, in as many calls as it takes; the log goes out after each.
-fn drain(
-    run: Run,
-    head: Head,
-    numbers: &mut Numbers,
-    times: &mut Times,
-    states: &mut States,
-    waiters: &mut Waiters,
-    text: &[u8],
-    scratch: &mut [u8],
-    out: &mut [u8],
-) -> Step
-    requires { ⌜ Kept run (given head numbers times states waiters) × (enoughRoom ≤ length (now scratch)) × (lineRoom ≤ length (now out)) ⌝ }
-    ensures { λ r. ⌜ Kept (r .run) (after (r .head) numbers times states waiters) ⌝ }
+fn drain(day: Session, text: &[u8], out: &mut [u8]) -> Step
+    requires { ⌜ Ready day × (lineRoom ≤ length (now out)) ⌝ }
+    ensures { λ r. ⌜ Ready (r .day) ⌝ }
 {
-    let mut r = run;
-    let mut h = head;
+    let mut d = day;
     let mut at: usize = 0;
     while at < text.len() {
-        let p = replay::replay_some(
-            r,
-            h,
-            numbers,
-            times,
-            states,
-            waiters,
-            &text[at..],
-            scratch,
-            out,
-        );
-        r = p.run;
-        h = p.head;
+        let p = session::go_on(d, &text[at..], out);
+        d = p.session;
         let n = p.written;
         if !put(&out[..n]) {
             return Step {
-                run: r,
-                head: h,
+                day: d,
                 more: false,
                 good: false,
             };
@@ -84,106 +50,54 @@ fn drain(
         at += p.read;
     }
     Step {
-        run: r,
-        head: h,
+        day: d,
         more: true,
         good: true,
     }
 }
 
 // Reads once, and takes what came.
-fn turn(
-    run: Run,
-    head: Head,
-    numbers: &mut Numbers,
-    times: &mut Times,
-    states: &mut States,
-    waiters: &mut Waiters,
-    fd: i32,
-    name: &[u8],
-    buf: &mut [u8],
-    scratch: &mut [u8],
-    out: &mut [u8],
-) -> Step
-    requires { ⌜ Kept run (given head numbers times states waiters) × (enoughRoom ≤ length (now scratch)) × (lineRoom ≤ length (now out)) ⌝ }
-    ensures { λ r. ⌜ Kept (r .run) (after (r .head) numbers times states waiters) ⌝ }
+fn turn(day: Session, fd: i32, name: &[u8], buf: &mut [u8], out: &mut [u8]) -> Step
+    requires { ⌜ Ready day × (lineRoom ≤ length (now out)) ⌝ }
+    ensures { λ r. ⌜ Ready (r .day) ⌝ }
 {
     let got = libc::read(fd, buf);
     if got < 0 {
         os::fail(name);
         return Step {
-            run: run,
-            head: head,
+            day: day,
             more: false,
             good: false,
         };
     }
     if got == 0 {
         return Step {
-            run: run,
-            head: head,
+            day: day,
             more: false,
             good: true,
         };
     }
     let n = io::count(got, buf);
-    drain(
-        run,
-        head,
-        numbers,
-        times,
-        states,
-        waiters,
-        &buf[..n],
-        scratch,
-        out,
-    )
+    drain(day, &buf[..n], out)
 }
 
 // To the end of the text. A proved loop has to end, so the turns are counted down from a number that no run uses up.
-fn all(
-    run: Run,
-    head: Head,
-    numbers: &mut Numbers,
-    times: &mut Times,
-    states: &mut States,
-    waiters: &mut Waiters,
-    fd: i32,
-    name: &[u8],
-    buf: &mut [u8],
-    scratch: &mut [u8],
-    out: &mut [u8],
-) -> Step
-    requires { ⌜ Kept run (given head numbers times states waiters) × (enoughRoom ≤ length (now scratch)) × (lineRoom ≤ length (now out)) ⌝ }
-    ensures { λ r. ⌜ Kept (r .run) (after (r .head) numbers times states waiters) ⌝ }
+fn all(day: Session, fd: i32, name: &[u8], buf: &mut [u8], out: &mut [u8]) -> Step
+    requires { ⌜ Ready day × (lineRoom ≤ length (now out)) ⌝ }
+    ensures { λ r. ⌜ Ready (r .day) ⌝ }
 {
-    let mut r = run;
-    let mut h = head;
+    let mut d = day;
     let mut turns = u64::MAX;
     while turns > 0 {
-        let t = turn(
-            r,
-            h,
-            numbers,
-            times,
-            states,
-            waiters,
-            fd,
-            name,
-            buf,
-            scratch,
-            out,
-        );
+        let t = turn(d, fd, name, buf, out);
         if !t.more {
             return t;
         }
-        r = t.run;
-        h = t.head;
+        d = t.day;
         turns -= 1;
     }
     Step {
-        run: r,
-        head: h,
+        day: d,
         more: false,
         good: false,
     }
@@ -197,48 +111,18 @@ fn tell_used(used: u64) {
 
 // The day behind a descriptor.
 fn play(fd: i32, name: &[u8], budget: u64, is_used: bool) {
-    let mut numbers: Numbers = [0; 2 * SLOTS];
-    let mut times: Times = [0; SLOTS];
-    let mut states: States = [0; 2 * SLOTS];
-    let mut waiters: Waiters = [0; QUEUE];
     let mut buf = io::large_buffer();
-    let mut scratch = [0u8; ROOM];
     let mut out = io::large_buffer();
-    let run = replay::begin(budget);
-    let head = replay::no_head();
-    let t = all(
-        run,
-        head,
-        &mut numbers,
-        &mut times,
-        &mut states,
-        &mut waiters,
-        fd,
-        name,
-        &mut buf,
-        &mut scratch,
-        &mut out,
-    );
+    let t = all(session::begin(budget), fd, name, &mut buf, &mut out);
     if !t.good {
         return;
     }
-    let r = t.run;
-    let h = t.head;
-    let k = replay::finish(
-        r,
-        h,
-        &mut numbers,
-        &mut times,
-        &mut states,
-        &mut waiters,
-        &mut scratch,
-        &mut out,
-    );
+    let d = t.day;
+    let k = session::finish(d, &mut out);
     let n = k.written;
     if put(&out[..n]) {
         if is_used {
-            let pace = k.pace;
-            tell_used(pace.used);
+            tell_used(k.used);
         }
     }
 }

@@ -1,39 +1,30 @@
-use Rattle.replay.proofs.Days.{tail-length, opening-read, day-done, day-left, day-short}
-use mathlib.Core.Path.{_≡_, refl, sym, ap, subst, _∙_}
 use mathlib.Core.Logic.{⊎-elim}
-use Prim.Native.Nat.{ℕ, _+_, _-_, _≤_, _<_}
 use native.Mathlib.Omega.{arith}
 use denote.Ref.{now}
-use lib.ListN.{length, take, drop, length-append, length-take, length-drop, length-replicate}
-use Rattle.replay.specs.Feed.{lineRoom}
-use Rattle.replay.specs.Resumed.{begin-kept}
+use Rattle.replay.specs.Exits.{day-done, day-left, day-short}
 use borrow.Author.Needs.{needs}
 use Rattle.replay.proofs.replay_day.Statement.{statement}
 use Rattle.replay.proofs.replay_day.Tie as tie
 use Rattle.replay.proofs.replay_day.Reads as reads
 use Rattle.replay.proofs.replay_day.Lts as lts
-use Rattle.replay.proofs.begin.Reads as begin-reads
-use Rattle.replay.proofs.finish.Reads as finish-reads
-use Rattle.replay.proofs.no_head.Reads as no-head-reads
-use Rattle.replay.proofs.replay_some.Reads as replay-some-reads
+use Rattle.session.proofs.begin.Reads as begin-reads
+use Rattle.session.proofs.finish.Reads as finish-reads
+use Rattle.session.proofs.go_on.Reads as go-on-reads
+
+abbrev start : tie.After-go-on → tie.Start
+start d = d .before .before .before .before .before
+
+abbrev gone : tie.Then2 → tie.After-go-on
+gone c = c .before .before .before .before .before .before
 
 begin-requires : tie.Need-begin-requires
 begin-requires c κs = search needs
 
-no-head-requires : tie.Need-no-head-requires
-no-head-requires c κs = search needs
-
-slice-aggregate-replay-some : tie.Need-slice-aggregate-replay-some
-slice-aggregate-replay-some c = search needs
-
-replay-some-requires : tie.Need-replay-some-requires
-replay-some-requires c κs = (begin-kept (c .before .before .before .before .before .before .before .before .before .before .args .budget) _ _ (c .before .before .before .before .before .before .before .begin .ensures), simp length-replicate (omega arith))
+go-on-requires : tie.Need-go-on-requires
+go-on-requires c κs = search needs
 
 sub-if2 : tie.Need-sub-if2
 sub-if2 c = search needs
-
-slice-aggregate-finish : tie.Need-slice-aggregate-finish
-slice-aggregate-finish c = search needs
 
 sub-finish : tie.Need-sub-finish
 sub-finish c = search needs
@@ -45,49 +36,55 @@ part-finish-end : tie.Need-part-finish-end
 part-finish-end c = search needs
 
 finish-requires : tie.Need-finish-requires
-finish-requires c κs =
-    let k = c .before .before .before .before .before .before .before .before .before .before .before .before .before .before .replay-some in
-    (k .ensures .kept, search needs, simp (length-take, length-drop) (omega (arith, c .before .before .before .before .before .before .if2 .taken, k .ensures .fits)))
+finish-requires c κs = search needs
 
-add-t38 : tie.Need-add-t38
-add-t38 c =
-    let e = c .before .before .before .before .before .before .before .before .before .before .before .before .before .before .before .before .before .before .before .before .replay-some .ensures in
-    omega (arith, c .before .before .before .before .before .finish .ensures .few, e .fits, c .before .before .before .before .before .before .before .before .before .before .before .before .if2 .taken, c .before .before .before .before .before .before .before .before .before .before .before .before .before .before .before .before .before .before .before .before .replay-some .kept .1 .1 .1 .1 .1 .1 .1 .1 .0, c .before .before .before .before .before .before .before .before .before .before .before .before .before .before .before .before .before .before .before .before .before .before .before .before .before .before .before .before .before .before .before .good .1 .1 .0 .0)
+add-t19 : tie.Need-add-t19
+add-t19 c =
+    let d : tie.After-go-on = gone (c .before .before .before .before .before) in
+    omega (arith, c .before .before .before .finish .ensures .few, d .go-on .ensures .fits, c .before .before .before .before .before .if2 .taken, d .go-on .kept .1 .1 .0, start d .good .1 .1 .0 .0)
 
 same-length : tie.Need-same-length
-same-length c =
-    let k = c .before .before .before .before .before .before .before .before .before .before .before .before .before .before .before .before .before .before .before .before .replay-some .kept .1 .1 .1 .1 .1 .1 .1 .1 .0 in
-    tail-length (c .before .before .before .before .before .before .before .before .before .before .before .before .before .before .before .before .before .before .before .before .replay-some .result .written) (c .before .before .before .before .before .before .before .before .before .before .before .before .before .before .before .before .before .before .before .before .replay-some .last .1 .1 .1 .1 .1 .1 .1 .1 .0) (c .before .before .before .before .before .finish .last .1 .1 .1 .1 .1 .1 .1 .0) (omega (arith, k, c .before .before .before .before .before .before .before .before .before .before .before .before .before .before .before .before .before .before .before .before .replay-some .ensures .fits)) (c .before .before .before .before .before .finish .kept .1 .1 .1 .1 .1 .1 .1 .0) ∙ k
+same-length c = search needs
 
 returns : tie.Need-returns
 returns c =
-    let g = c .before .before .before .before .before .before .before .before .before .before .before .before .before .before .before .before .before .before .before .before .before .before .before .before .before .before .before .before .before .before .before .args in
-    day-done (g .budget) (now (g .text)) (now (g .o)) _ _ _ _ _ _ (opening-read (g .budget) (c .before .before .before .before .before .before .before .before .before .before .before .before .before .before .before .before .before .before .before .before .before .before .before .before .before .before .before .before .begin .result) (c .before .before .before .before .before .before .before .before .before .before .before .before .before .before .before .before .before .before .before .before .before .before .before .before .before .before .before .no-head .result) (now (g .text)) (now (g .o)) _ _ _ _ _ _ (c .before .before .before .before .before .before .before .before .before .before .before .before .before .before .before .before .before .before .before .before .before .before .before .before .before .before .before .before .begin .ensures) (c .before .before .before .before .before .before .before .before .before .before .before .before .before .before .before .before .before .before .before .before .before .before .before .before .before .before .before .no-head .ensures) (c .before .before .before .before .before .before .before .before .before .before .before .before .before .before .before .before .before .before .before .before .replay-some .ensures)) (c .before .before .before .before .before .before .before .before .before .before .before .before .before .if1 .taken) (omega (arith, c .before .before .before .before .before .before .before .before .before .before .before .before .if2 .taken, c .before .before .before .before .before .before .before .before .before .before .before .before .before .before .before .before .before .before .before .before .replay-some .kept .1 .1 .1 .1 .1 .1 .1 .1 .0)) _ _ _ (c .before .before .before .before .before .finish .ensures)
+    let t : tie.Then2 = c .before .before .before .before .before in
+    let d : tie.After-go-on = gone t in
+    let a = start d .args in
+    let b = d .before .before .begin in
+    let g = d .go-on in
+    let k = c .before .before .before .finish in
+    day-done (a .budget) (now (a .text)) (now (a .out)) (g .last .1 .1 .0) (b .result) (g .result .session) (g .result .read) (g .result .written) (b .ensures) (g .ensures)
+    (g .kept .1 .1 .0) (t .before .if1 .taken) (t .if2 .taken) (k .last .1 .0) (k .result .used) (k .result .written) (k .ensures)
 
 same-length-2 : tie.Need-same-length-2
 same-length-2 c = search needs
 
 returns-2 : tie.Need-returns-2
 returns-2 c =
-    let g = c .before .before .before .before .before .before .before .before .before .before .before .before .before .before .before .before .before .before .before .args in
-    let k = (opening-read (g .budget) (c .before .before .before .before .before .before .before .before .before .before .before .before .before .before .before .before .begin .result) (c .before .before .before .before .before .before .before .before .before .before .before .before .before .before .before .no-head .result) (now (g .text)) (now (g .o)) _ _ _ _ _ _ (c .before .before .before .before .before .before .before .before .before .before .before .before .before .before .before .before .begin .ensures) (c .before .before .before .before .before .before .before .before .before .before .before .before .before .before .before .no-head .ensures) (c .before .before .before .before .before .before .before .before .replay-some .ensures)) in
-    ⊎-elim (λ w. day-short (g .budget) (now (g .text)) (now (g .o)) _ _ _ _ _ _ k (omega (arith, w .1 .left, c .before .before .before .before .before .before .before .before .replay-some .kept .1 .1 .1 .1 .1 .1 .1 .1 .0))) (λ w. day-left (g .budget) (now (g .text)) (now (g .o)) _ _ _ _ _ _ k (w .left)) (c .before .if1 .came)
+    let d : tie.After-go-on = c .before .before .before .before .before .before .before in
+    let a = start d .args in
+    let b = d .before .before .begin in
+    let g = d .go-on in
+    ⊎-elim
+    (λ w. day-short (a .budget) (now (a .text)) (now (a .out)) (g .last .1 .1 .0) (b .result) (g .result .session) (g .result .read) (g .result .written) (b .ensures) (g .ensures)
+    (g .kept .1 .1 .0) (w .1 .left))
+    (λ w. day-left (a .budget) (now (a .text)) (now (a .out)) (g .last .1 .1 .0) (b .result) (g .result .session) (g .result .read) (g .result .written) (b .ensures) (g .ensures)
+    (g .kept .1 .1 .0) (w .left))
+    (c .before .before .if1 .came)
 
 pub replay-day-spec : {M : Type 1} → statement M
 replay-day-spec =
     tie.close
     (tie.spec
     begin-requires
-    no-head-requires
-    slice-aggregate-replay-some
-    replay-some-requires
+    go-on-requires
     sub-if2
-    slice-aggregate-finish
     sub-finish
     part-finish-start
     part-finish-end
     finish-requires
-    add-t38
+    add-t19
     same-length
     returns
     same-length-2

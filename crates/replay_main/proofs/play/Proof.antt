@@ -1,20 +1,19 @@
-use mathlib.Core.Path.{_≡_, refl}
-use Prim.Native.Nat.{_≤_}
 use native.Mathlib.Omega.{arith}
-use lib.ListN.{length, length-take, length-replicate}
-use Rattle.replay.specs.Resumed.{begin-kept}
+use lib.ListN.{length-take}
 use borrow.Author.Needs.{needs}
 use Rattle.replay_main.proofs.play.Statement.{statement}
 use Rattle.replay_main.proofs.play.Tie as tie
 use Rattle.replay_main.proofs.play.Reads as reads
 use Rattle.replay_main.proofs.play.Lts as lts
 use Rattle.io.proofs.large_buffer.Reads as large-buffer-reads
-use Rattle.replay.proofs.begin.Reads as begin-reads
-use Rattle.replay.proofs.finish.Reads as finish-reads
-use Rattle.replay.proofs.no_head.Reads as no-head-reads
 use Rattle.replay_main.proofs.all.Reads as all-reads
 use Rattle.replay_main.proofs.put.Reads as put-reads
 use Rattle.replay_main.proofs.tell_used.Reads as tell-used-reads
+use Rattle.session.proofs.begin.Reads as begin-reads
+use Rattle.session.proofs.finish.Reads as finish-reads
+
+abbrev finished : tie.After-out5 → tie.After-all
+finished c = c .before .before .before .before .before .before .before .before .before
 
 large-buffer-requires : tie.Need-large-buffer-requires
 large-buffer-requires c κs = search needs
@@ -25,29 +24,20 @@ large-buffer-requires-2 c κs = search needs
 begin-requires : tie.Need-begin-requires
 begin-requires c κs = search needs
 
-no-head-requires : tie.Need-no-head-requires
-no-head-requires c κs = search needs
-
 slice-aggregate-all : tie.Need-slice-aggregate-all
 slice-aggregate-all c = search needs
 
 slice-aggregate-all-2 : tie.Need-slice-aggregate-all-2
 slice-aggregate-all-2 c = search needs
 
-slice-aggregate-all-3 : tie.Need-slice-aggregate-all-3
-slice-aggregate-all-3 c = search needs
-
 all-requires : tie.Need-all-requires
-all-requires c κs = (begin-kept (c .before .before .before .before .before .before .before .before .before .before .before .before .args .budget) _ _ (c .before .before .before .before .before .before .before .before .begin .ensures), simp length-replicate (omega arith), omega (arith, c .before .before .before .before .before .before .before .before .before .large-buffer2 .ensures))
+all-requires c κs = search needs
 
 returns : tie.Need-returns
 returns c = search needs
 
 slice-aggregate-finish : tie.Need-slice-aggregate-finish
 slice-aggregate-finish c = search needs
-
-slice-aggregate-finish-2 : tie.Need-slice-aggregate-finish-2
-slice-aggregate-finish-2 c = search needs
 
 finish-requires : tie.Need-finish-requires
 finish-requires c κs = search needs
@@ -56,7 +46,10 @@ array-share-prefix-out : tie.Need-array-share-prefix-out
 array-share-prefix-out c = search needs
 
 slice-aggregate-put : tie.Need-slice-aggregate-put
-slice-aggregate-put c = simp length-take (omega (arith, c .before .before .before .finish .ensures .few, c .before .before .before .finish .kept .1 .1 .1 .1 .1 .1 .1 .0, c .before .before .before .before .before .before .before .before .before .before .before .before .before .before .before .before .before .all .kept .1 .1 .1 .1 .1 .1 .1 .1 .1 .1 .0, c .before .before .before .before .before .before .before .before .before .before .before .before .before .before .before .before .before .before .before .before .before .before .before .before .before .before .before .large-buffer2 .ensures))
+slice-aggregate-put c =
+    let k = c .before .before .finish in
+    let d : tie.After-all = finished c in
+    simp length-take (omega (arith, k .ensures .few, k .kept .1 .0, d .all .kept .1 .1 .1 .1 .0, d .before .before .before .before .large-buffer2 .ensures))
 
 put-requires : tie.Need-put-requires
 put-requires c κs = search needs
@@ -80,14 +73,11 @@ play-spec =
     large-buffer-requires
     large-buffer-requires-2
     begin-requires
-    no-head-requires
     slice-aggregate-all
     slice-aggregate-all-2
-    slice-aggregate-all-3
     all-requires
     returns
     slice-aggregate-finish
-    slice-aggregate-finish-2
     finish-requires
     array-share-prefix-out
     slice-aggregate-put

@@ -1,0 +1,4 @@
+pub mod Machine
+pub mod OnSlots
+pub mod Code
+pub mod Exits

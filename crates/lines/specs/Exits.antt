@@ -22,7 +22,8 @@ use Rattle.slots.specs.Call.{World, world, call}
 use Rattle.slots.specs.declared.Outcome.{Outcome}
 use Rattle.slots.specs.declared.Outcome.the-variants.{Refused, Accepted}
 use Rattle.refinement.specs.Stands.{Formed}
-use Rattle.refinement.specs.Formed.{freshHead, overBlank, freshSlots, fresh-parts, fresh-formed, call-formed}
+use Rattle.refinement.specs.Alike.{freshHead, freshSlots}
+use Rattle.refinement.specs.Formed.{overBlank, fresh-parts, fresh-formed, call-formed}
 use Rattle.refinement.specs.RecordRoom.{FewIn, call-few}
 use Rattle.text.specs.Printed.{printed, length-printed, length-lineOf}
 use Rattle.lines.specs.declared.Phase.{Phase}

@@ -10,7 +10,7 @@ use Rattle.refinement.specs.Table.{and-both}
 use Rattle.definition.specs.Words.{if_then_else_, _=?_, _≤?_, _<?_}
 use Rattle.definition.specs.Day.{logOf, framesUsed}
 use Rattle.definition.specs.Refusals.{enoughRoom}
-use Rattle.refinement.specs.Formed.{freshSlots}
+use Rattle.refinement.specs.Alike.{freshSlots}
 use Rattle.lines.specs.Machine.{Took, lineRoom}
 use Rattle.lines.specs.OnSlots.{Play, onSlots}
 use Rattle.pieces.specs.Feed.{Fed, stop, joined, goOn, finish}

@@ -4,7 +4,7 @@ ghost use Prim.Native.Nat.{_≤_};
 ghost use lib.ListN.{length, take};
 ghost use Rattle.definition.specs.Refusals.{enoughRoom};
 ghost use Rattle.slots.specs.View.{given, before, after};
-ghost use Rattle.refinement.specs.Formed.{freshHead};
+ghost use Rattle.refinement.specs.Alike.{freshHead};
 ghost use Rattle.lines.specs.Machine.{lineRoom};
 ghost use Rattle.lines.specs.OnSlots.{onSlots};
 ghost use Rattle.lines.specs.Code.{playOf, Lined};

@@ -5,7 +5,7 @@ use Prim.Native.Nat.{ℕ, _≤_, _<_}
 use lib.ListN.{length, drop, replicate}
 use Rattle.definition.specs.Refusals.{enoughRoom}
 use Rattle.slots.specs.View.{SlotPool, poolOf}
-use Rattle.refinement.specs.Formed.{freshSlots}
+use Rattle.refinement.specs.Alike.{freshSlots}
 use Rattle.lines.specs.declared.Phase.the-variants.{First}
 use Rattle.lines.specs.Machine.{Took, lineRoom}
 use Rattle.lines.specs.OnSlots.{Play, onSlots}

@@ -6,7 +6,8 @@ use Rattle.definition.specs.Bytes.{optionsOfLine}
 use Rattle.definition.specs.declared.Refusal.the-variants.{Malformed, OptionsOutOfRange}
 use Rattle.slots.specs.View.{SlotPool, given}
 use Rattle.slots.specs.declared.Head.{Head}
-use Rattle.refinement.specs.Formed.{freshHead, overBlank}
+use Rattle.refinement.specs.Alike.{freshHead}
+use Rattle.refinement.specs.Formed.{overBlank}
 use Rattle.text.specs.Given.{optionsIn}
 use Rattle.lines.specs.Code.{goingPace, Opens}
 use Rattle.lines.specs.Exits.{options-malformed, options-out, options-made, opens-bad, opens-made}

@@ -1,14 +1,13 @@
 // The service stage: once after an event, the front waiter is taken.
 ghost use mathlib.Core.Path.{_≡_};
-ghost use Prim.Native.Nat.{_+_, _≤_, _<_};
+ghost use Prim.Native.Nat.{_+_};
 ghost use Rattle.slots.specs.View.{given, before, after, waiterOf, Whole};
 ghost use Rattle.slots.specs.Done.{Room, Done};
 ghost use Rattle.slots.specs.Needs.{CanCreate, CanShelve, CanTake, CanWarm, CanServe};
 ghost use Rattle.slots.specs.Slots.{establish, takeFrom, lend, checkOut, canServiceAt, service};
 use acts::Progress;
-use slots::Numbers;
 use slots::Head;
-use definition::SLOTS;
+use slots::Numbers;
 use slots::States;
 use slots::Times;
 use slots::Waiters;
@@ -107,15 +106,14 @@ pub fn take_available(
     let mut k = head.available_count;
     while 0 < k {
         k = k - 1;
-        let i = words::as_index(states[SLOTS + k]);
-        let m = h.status;
-        let o = h.options;
-        let r = conditions::perished(m.generation, o.idle, h.clock, numbers[SLOTS + i], times[i]);
+        let back = conditions::examine(h, numbers, times, states, k);
+        let i = back.slot;
+        let r = back.reason;
         h = acts::pop_back(h, numbers, times, states, waiters);
         if r == 0 {
             return lend(h, numbers, times, states, waiters, out, count, waiter, i);
         }
-        let c = acts::close_connection(h, numbers, times, states, waiters, out, count, i, r);
+        let c = acts::close_connection(h, numbers, times, states, waiters, out, count, i, r, 0);
         h = c.head;
         count = c.count;
     }

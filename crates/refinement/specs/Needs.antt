@@ -15,6 +15,7 @@ use Rattle.definition.specs.declared.Event.the-variants.{Clear, Maintenance}
 use Rattle.slots.specs.View.{SlotPool, Whole}
 use Rattle.slots.specs.View as View
 use Rattle.slots.specs.Slots as S
+use Rattle.slots.specs.StepLaws.{room-to-create}
 use Rattle.slots.specs.Call.{target}
 use Rattle.slots.specs.Needs.{CanCreate, CanClose, CanShelve, CanLeave, CanPrune, CanFill, CanQueue, CanTell, CanClear, CanTake, CanWarm, CanServe}
 use Rattle.refinement.specs.Table.{by-lt, by-bool, or-right}
@@ -24,7 +25,7 @@ use Rattle.refinement.specs.Transit.{counted, at-most, one-less}
 use Rattle.refinement.specs.Queue.{others}
 use Rattle.refinement.specs.Acts.{vacancy}
 use Rattle.refinement.specs.Walks.{removePerished-same, closeFront-same}
-use Rattle.refinement.specs.Service.{dequeued, room-to-create}
+use Rattle.refinement.specs.Service.{dequeued}
 use Rattle.refinement.specs.Events.{Holds, fit-clock, handle-same}
 use Rattle.refinement.specs.Tests.{Passed}
 use Rattle.refinement.specs.Leaves.{Leaves, leaves-all, leaves-if, prune-leaves, service-leaves}

@@ -1,11 +1,11 @@
 -- The service stage.
 use mathlib.Core.Path.{_≡_, refl, ap, sym, subst, _∙_}
-use mathlib.Core.Bool.{Bool, true, _&&_, _||_}
+use mathlib.Core.Bool.{Bool, _&&_, _||_}
 use mathlib.Core.List.{List, [], _∷_, map, reverse, reverse-cons, reverse-reverse}
 use Prim.Native.Nat.{ℕ, zero, suc, _-_, _<_}
 use native.Mathlib.Omega.{arith}
 use lib.ListN.{length, getD, take, length-reverse}
-use borrow.Author.Tests.{ltb-true, leb-false, eq-eqb, ne-eqb, lt-ltb}
+use borrow.Author.Tests.{leb-false, eq-eqb, ne-eqb, lt-ltb}
 use Rattle.definition.specs.Words.{if_then_else_, _<?_, _≤?_, _=?_, _∷ʳ_, some?}
 use Rattle.definition.specs.Pool as P
 use Rattle.definition.specs.Pool.{slotCount, Pool, Conn, Waiter, isReady, total}
@@ -19,7 +19,8 @@ use Rattle.slots.specs.Order.{shifted}
 use Rattle.slots.specs.View.{SlotPool, waiterOf}
 use Rattle.slots.specs.View as View
 use Rattle.slots.specs.Slots as S
-use Rattle.refinement.specs.Table.{by-eq, and-both}
+use Rattle.slots.specs.StepLaws.{room-to-create}
+use Rattle.refinement.specs.Table.{by-eq}
 use Rattle.refinement.specs.Stands.{Stands, Same}
 use Rattle.refinement.specs.Transit.{counted, at-most}
 use Rattle.refinement.specs.Queue.{others, queue-front, queue-left}
@@ -90,14 +91,6 @@ module _ (p : SlotPool) (m : Pool) (st : Stands p m) (k : ℕ) (n : suc k ≡ p 
   serveFront-same z =
       subst (λ (l : List Waiter). Same (S.serveFront p) (D.serveFront l m)) (sym (queue-front queue-of))
       (same-said S.dequeue _ (become (P.withWaiting m (others (p .waiters) k))) _ p m refl (checkOut-same (waiterOf (getD (p .waiters) 0 0)) _ _ dequeued z))
-
--- where nothing is available, a pool that can serve is below its maximum
-pub room-to-create : (p : SlotPool) → S.canService p ≡ true → p .availables ≡ 0 → p .total < p .options .maximum
-unfolding S.canServiceAt
-room-to-create p h e =
-    let r = and-both (isReady (p .state)) _ h .1 in
-    let r' : (0 <? 0 || p .total <? p .options .maximum && p .pendings <? p .options .connecting) ≡ true = subst (λ (x : ℕ). (0 <? x || p .total <? p .options .maximum && p .pendings <? p .options .connecting) ≡ true) e r in
-    ltb-true (p .total) (p .options .maximum) (and-both (p .total <? p .options .maximum) (p .pendings <? p .options .connecting) r' .0)
 
 some-length : (l : List Conn) → some? l ≡ (0 <? length l)
 some-length [] = refl

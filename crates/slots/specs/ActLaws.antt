@@ -2,7 +2,7 @@
 use mathlib.Core.Path.{_≡_, refl, sym, ap, _∙_}
 use mathlib.Core.Bool.{Bool, true, false, _||_}
 use mathlib.Core.List.{List, [], _∷_}
-use Prim.Native.Nat.{ℕ, zero, suc, _+_, _≤_, _<_}
+use Prim.Native.Nat.{ℕ, zero, suc, _+_, _-_, _≤_, _<_}
 use native.Mathlib.Omega.{arith}
 use lib.ListN.{length, getD, set, length-set}
 use Rattle.definition.specs.Words.{if_then_else_, _=?_}
@@ -10,13 +10,13 @@ use Rattle.definition.specs.Pool.{slotCount, idleFor}
 use Rattle.definition.specs.Steps.{_>>_}
 use Rattle.definition.specs.declared.ClosedReason.{ClosedReason}
 use Rattle.definition.specs.declared.ClosedReason.the-variants.{Idle, Stale}
-use Rattle.slots.specs.OrderLaws.{shifted-below, length-shifted}
+use Rattle.slots.specs.OrderLaws.{shifted-below, length-shifted, set-below}
 use Rattle.slots.specs.View.{SlotPool, Slot, Whole, slotsOf, orderIn, slotAt, staleAt, perishedAt}
 use Rattle.slots.specs.Parts.{slots-at}
 use Rattle.slots.specs.Codes.{reasonOf, perishedNo, Examines}
 use Rattle.slots.specs.CodeLaws.{perished-no}
 use Rattle.slots.specs.Needs.{taken, CanPrune}
-use Rattle.slots.specs.Slots.{closeAt, popFront, createPendingConnection, zeroed}
+use Rattle.slots.specs.Slots.{closeAt, popFront, popBack, createPendingConnection, zeroed}
 use Rattle.slots.specs.declared.Head.{Head}
 
 -- ── Ids taken ──
@@ -111,6 +111,18 @@ module _ (p : SlotPool) where
     counts = omega (arith, s .counts);
     fits = omega (arith, s .fits);
     listed = shifted-below slotCount (p .availables) (p .available) z (s .listed);
+  }
+
+  pub back-whole : Whole p → Whole (popBack p .pool)
+  unfolding popBack
+  back-whole w = record { ids = w .ids; slots = w .slots; available = length-set (p .available) _ 0 ∙ w .available; waiters = w .waiters }
+
+  pub back-prune : CanPrune p → CanPrune (popBack p .pool)
+  unfolding popBack
+  back-prune s = record {
+    counts = omega (arith, s .counts);
+    fits = omega (arith, s .fits);
+    listed = set-below slotCount (p .available) (p .availables - 1) 0 (omega arith) (s .listed);
   }
 
   pub closed-whole : (reason : ClosedReason) (i other : ℕ) → Whole p → Whole (closeAt reason i other p .pool)

@@ -2,14 +2,17 @@
 use mathlib.Core.Path.{_≡_}
 use mathlib.Core.Bool.{Bool, true, false}
 use mathlib.Core.List.{List, [], _∷_}
+use mathlib.Core.Logic.{inl, inr}
 use Prim.Native.Nat.{ℕ, zero, suc, _+_, _≤_, _<_}
+use native.Mathlib.Nat.{eq-or-lt-of-le}
 use native.Mathlib.Omega.{arith}
-use lib.ListN.{length, getD}
+use lib.ListN.{length, getD, set}
+use lib.Seq.{getD-set-same}
 use Rattle.definition.specs.Words.{if_then_else_, _=?_}
 use Rattle.definition.specs.Pool.{slotCount}
 use Rattle.slots.specs.Columns.{column}
 use Rattle.slots.specs.Order.{placeBy, place, slotHolding, vacantSlot}
-use Rattle.slots.specs.OrderLaws.{place-found, place-before, place-front}
+use Rattle.slots.specs.OrderLaws.{place-most, place-found, place-before, place-front}
 use Rattle.slots.specs.Needs.{taken}
 
 module _ (ids : List ℕ) where
@@ -52,3 +55,11 @@ place-free (suc n) (x ∷ l) e h = place-if (x =? 0) n (taken l) _ h (place-free
 pub vacant-found : (ids : List ℕ) → length ids ≡ slotCount → taken ids < slotCount → vacantSlot ids < slotCount
 unfolding vacantSlot
 vacant-found ids e h = place-free slotCount ids e h
+
+-- where one has been freed, one is found
+pub vacant-freed : (ids : List ℕ) → length ids ≡ slotCount → (i : ℕ) → i < slotCount → vacantSlot (set ids i 0) < slotCount
+unfolding vacantSlot
+vacant-freed ids e i low =
+    let freed = getD-set-same ids i 0 0 (omega (arith, e)) in
+    elim (eq-or-lt-of-le (place-most (λ v. v) 0 slotCount (set ids i 0)))
+    [ inl q ↦ absurd (place-before (λ v. v) 0 slotCount (set ids i 0) i (omega (arith, q)) freed) | inr q ↦ q ]

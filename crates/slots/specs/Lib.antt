@@ -15,3 +15,4 @@ pub mod CodeLaws
 pub mod StepLaws
 pub mod ActLaws
 pub mod ActExits
+pub mod Sweep

@@ -6,7 +6,7 @@ use mathlib.Core.Logic.{inl, inr}
 use Prim.Native.Nat.{ℕ, zero, suc, _+_, _-_, _≤_, _<_}
 use native.Mathlib.Nat.{eq-or-lt-of-le}
 use native.Mathlib.Omega.{arith}
-use lib.ListN.{length, take, drop, getD, length-append, length-drop}
+use lib.ListN.{length, take, drop, getD, set, length-append, length-drop}
 use lib.Seq.{take-nil, drop-nil, take-at, drop-at, drop-drop, length-take-le}
 use borrow.Author.Tests.{eqb-true, eqb-false}
 use Rattle.definition.specs.Words.{if_then_else_, _=?_}
@@ -192,6 +192,14 @@ shifted-every P (suc n) l h z every k =
 
 pub shifted-below : (m n : ℕ) (l : List ℕ) → 0 < n → ((k : ℕ) → getD l k 0 < m) → (k : ℕ) → getD (shifted n l) k 0 < m
 shifted-below m n l h below = shifted-every (λ (v : ℕ). v < m) n l h (omega (arith, below 0)) below
+
+-- and a cell that is written
+pub set-below : (m : ℕ) (l : List ℕ) (i v : ℕ) → v < m → ((k : ℕ) → getD l k 0 < m) → (k : ℕ) → getD (set l i v) k 0 < m
+set-below m [] i v low below k = below k
+set-below m (x ∷ l) zero v low below zero = low
+set-below m (x ∷ l) zero v low below (suc k) = below (suc k)
+set-below m (x ∷ l) (suc i) v low below zero = below zero
+set-below m (x ∷ l) (suc i) v low below (suc k) = set-below m l i v low (λ (j : ℕ). below (suc j)) k
 
 -- ── Bytes laid down ────────────────────────────────────────────────────────────────────────────────────────────────────
 

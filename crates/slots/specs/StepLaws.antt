@@ -1,10 +1,11 @@
 -- The cases of the steps.
-use mathlib.Core.Path.{_≡_}
-use mathlib.Core.Bool.{Bool, true, false}
+use mathlib.Core.Path.{_≡_, refl, subst}
+use mathlib.Core.Bool.{Bool, true, false, _&&_, _||_, false≢true}
 use mathlib.Core.List.{[]}
-use Prim.Native.Nat.{ℕ, _+_, _*_}
+use Prim.Native.Nat.{ℕ, _+_, _*_, _<_}
+use borrow.Author.Tests.{ltb-true}
 use lib.ListN.{set}
-use Rattle.definition.specs.Words.{if_then_else_}
+use Rattle.definition.specs.Words.{if_then_else_, _<?_}
 use Rattle.definition.specs.Pool.{isReady, isClosed}
 use Rattle.definition.specs.Records.{ConnectionCheckedIn, ConnectionReady, PoolReady, Replied, Cleared}
 use Rattle.definition.specs.Steps.{emit, nothing, _>>_}
@@ -12,7 +13,7 @@ use Rattle.definition.specs.Events.{bit}
 use Rattle.definition.specs.declared.PoolState.the-variants.{New, Paused, Ready, Closed}
 use Rattle.definition.specs.declared.ClosedReason.the-variants.{Stale, Error, Dropped, PoolClosed}
 use Rattle.slots.specs.View.{SlotPool, idAt, staleAt, withLastRequest, withWaiters}
-use Rattle.slots.specs.Slots.{closeAt, shelve, leavePending, enter, checkInAt, succeededForPoolAt, markAsReady, queue, request}
+use Rattle.slots.specs.Slots.{closeAt, shelve, leavePending, enter, checkInAt, succeededForPoolAt, markAsReady, queue, request, canService, canServiceAt}
 
 module _ (p : SlotPool) (i : ℕ) (errored executing : Bool) (t : ℕ) where
   pub checkIn-closed : isClosed (p .state) ≡ true → checkInAt i errored executing t p ≡ closeAt PoolClosed i 0 p
@@ -69,3 +70,16 @@ module _ (p : SlotPool) (n : ℕ) (warm : Bool) where
   pub request-closed : p .state ≡ Closed → request n warm p ≡ nothing (withLastRequest p n)
   unfolding request queue _>>_
   request-closed h = rw h
+
+-- where nothing is available, a pool that can serve is below its maximum
+below : (r x y : Bool) → (r && (x && y)) ≡ true → x ≡ true
+below false x y h = absurd (false≢true h)
+below true true y h = refl
+below true false y h = h
+
+pub room-to-create : (p : SlotPool) → canService p ≡ true → p .availables ≡ 0 → p .total < p .options .maximum
+unfolding canServiceAt
+room-to-create p h z =
+    let x = p .total <? p .options .maximum in
+    let y = p .pendings <? p .options .connecting in
+    ltb-true _ _ (below (isReady (p .state)) x y (subst (λ (a : ℕ). (isReady (p .state) && (0 <? a || x && y)) ≡ true) z h))

@@ -1,17 +1,30 @@
-use native.Mathlib.Omega.{arith}
-use borrow.Author.Tests.{eq-eqb, ne-eqb}
 use denote.Ref.{now}
-use Rattle.slots.specs.View.{poolOf, waiterOf}
-use Rattle.slots.specs.DoneLaws.{done-as}
-use Rattle.checkout.specs.Laws.{checkOut-takes, checkOut-low, warmed}
+use Rattle.slots.specs.View.{SlotPool, poolOf}
+use Rattle.checkout.specs.Serving.{out-takes, out-warm, out-low, low-creates}
 use borrow.Author.Needs.{needs}
 use Rattle.checkout.proofs.check_out.Statement.{statement}
 use Rattle.checkout.proofs.check_out.Tie as tie
-use Rattle.checkout.proofs.check_out.Reads as reads
-use Rattle.checkout.proofs.check_out.Lts as lts
-use Rattle.acts.proofs.reply.Reads as reply-reads
-use Rattle.checkout.proofs.establish.Reads as establish-reads
-use Rattle.checkout.proofs.take_available.Reads as take-available-reads
+
+-- the pool that the function is lent
+abbrev lent : tie.Start → SlotPool
+lent s = let a = s .args in poolOf (a .head) (now (a .numbers)) (now (a .times)) (now (a .states)) (now (a .waiters))
+
+-- those that it leaves, and where each was made
+abbrev left-taken : tie.After-take-available → SlotPool
+left-taken d = let k = d .take-available in poolOf (k .result .head) (k .last .1 .0) (k .last .1 .1 .0) (k .last .1 .1 .1 .0) (k .last .1 .1 .1 .1 .0)
+
+abbrev left-created : tie.After-establish → SlotPool
+left-created d = let k = d .establish in poolOf (k .result .head) (k .last .1 .0) (k .last .1 .1 .0) (k .last .1 .1 .1 .0) (k .last .1 .1 .1 .1 .0)
+
+abbrev asks : tie.After-take-available → tie.Then1
+asks d = d .before .before .before .before .before .before
+
+abbrev few : tie.After-establish → tie.Else2
+few d = d .before .before .before .before .before .before
+
+-- where the waiter warms the pool, seen from where the connections are counted
+abbrev warms : tie.After-struct-known2 → tie.Else1
+warms d = d .before .before .before
 
 take-available-requires : tie.Need-take-available-requires
 take-available-requires c κs = search needs
@@ -21,8 +34,9 @@ same-length c = search needs
 
 returns : tie.Need-returns
 returns c =
-    let a = c .before .before .before .before .before .before .before .before .before .before .args in
-    done-as (checkOut-takes (waiterOf (a .waiter)) (poolOf (a .head) (now (a .numbers)) (now (a .times)) (now (a .states)) (now (a .waiters))) (ne-eqb _ _ (c .before .before .before .before .before .before .before .before .if1 .taken))) (c .before .before .take-available .ensures)
+    let d = c .before .before in
+    let s = asks d .before .before in
+    out-takes (s .args .waiter) (lent s) {q = left-taken d} (asks d .if1 .taken) (d .take-available .ensures)
 
 reply-requires : tie.Need-reply-requires
 reply-requires c κs = search needs
@@ -35,21 +49,27 @@ same-length-2 c = search needs
 
 returns-2 : tie.Need-returns-2
 returns-2 c =
-    let a = c .before .before .before .before .before .before .before .before .before .before .args in
-    warmed (waiterOf (a .waiter)) (poolOf (a .head) (now (a .numbers)) (now (a .times)) (now (a .states)) (now (a .waiters))) (eq-eqb _ _ (c .before .before .before .before .before .before .before .before .if1 .left)) (c .before .before .before .before .if2 .taken) (c .before .before .reply .ensures)
+    let told = c .before .before in
+    let enough = told .before .before in
+    let w = warms (enough .before) in
+    let s = w .before .before in
+    out-warm (s .args .waiter) (lent s) (w .if1 .left) (enough .if2 .taken) (told .reply .ensures)
 
 establish-requires : tie.Need-establish-requires
 establish-requires c κs =
-    let r = c .before .before .before .before .before .before .before .before .before .before .before .pre in
-    (r .0, record { spot = r .2 .spot (c .before .before .before .before .before .if2 .left); ids = r .1 .ids; total = r .1 .total; pending = r .1 .pending }, (omega (arith, r .3 .0), omega (arith, r .3 .1)))
+    let d = c .before .before .before .before .before in
+    let s = warms (d .before) .before .before in
+    low-creates (lent s) (s .args .n) (now (s .args .out)) (s .pre) (d .if2 .left)
 
 same-length-3 : tie.Need-same-length-3
 same-length-3 c = search needs
 
 returns-3 : tie.Need-returns-3
 returns-3 c =
-    let a = c .before .before .before .before .before .before .before .before .before .before .before .before .before .before .args in
-    done-as (checkOut-low (waiterOf (a .waiter)) (poolOf (a .head) (now (a .numbers)) (now (a .times)) (now (a .states)) (now (a .waiters))) (eq-eqb _ _ (c .before .before .before .before .before .before .before .before .before .before .before .before .if1 .left)) (c .before .before .before .before .before .before .before .before .if2 .left)) (c .before .before .establish .ensures)
+    let d = c .before .before in
+    let w = warms (few d .before) in
+    let s = w .before .before in
+    out-low (s .args .waiter) (lent s) {q = left-created d} (w .if1 .left) (few d .if2 .left) (d .establish .ensures)
 
 pub check-out-spec : {M : Type 1} → statement M
 check-out-spec =

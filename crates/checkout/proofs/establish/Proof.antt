@@ -1,13 +1,19 @@
 use denote.Ref.{now}
-use Rattle.slots.specs.View.{poolOf, waiterOf}
-use Rattle.checkout.specs.Laws.{established}
+use Rattle.slots.specs.View.{SlotPool, poolOf, waiterOf}
+use Rattle.checkout.specs.Lending.{established}
 use borrow.Author.Needs.{needs}
 use Rattle.checkout.proofs.establish.Statement.{statement}
 use Rattle.checkout.proofs.establish.Tie as tie
-use Rattle.checkout.proofs.establish.Reads as reads
-use Rattle.checkout.proofs.establish.Lts as lts
-use Rattle.acts.proofs.create_pending_connection.Reads as create-pending-connection-reads
-use Rattle.acts.proofs.reply.Reads as reply-reads
+
+-- the pool that the function is lent, and the one in which one more is pending
+abbrev lent : tie.Start → SlotPool
+lent s = let a = s .args in poolOf (a .head) (now (a .numbers)) (now (a .times)) (now (a .states)) (now (a .waiters))
+
+abbrev left : tie.After-create-pending-connection → SlotPool
+left d = let k = d .create-pending-connection in poolOf (k .result .head) (k .last .1 .0) (k .last .1 .1 .0) (k .last .1 .1 .1 .0) (k .last .1 .1 .1 .1 .0)
+
+abbrev start : tie.After-create-pending-connection → tie.Start
+start d = d .before .before .before .before .before .before .before
 
 create-pending-connection-requires : tie.Need-create-pending-connection-requires
 create-pending-connection-requires c κs = search needs
@@ -26,8 +32,9 @@ same-length c = search needs
 
 returns : tie.Need-returns
 returns c =
-    let a = c .before .before .before .before .before .before .before .before .before .before .before .before .before .before .args in
-    established (waiterOf (a .waiter)) (poolOf (a .head) (now (a .numbers)) (now (a .times)) (now (a .states)) (now (a .waiters))) _ (c .before .before .before .before .before .before .before .create-pending-connection .ensures) (c .before .before .before .reply .ensures)
+    let told = c .before .before .before in
+    let made = told .before .before .before .before in
+    established (waiterOf (start made .args .waiter)) (lent (start made)) (left made) (made .create-pending-connection .ensures) (told .reply .ensures)
 
 pub establish-spec : {M : Type 1} → statement M
 establish-spec =

@@ -1,18 +1,32 @@
-use mathlib.Core.Path.{sym}
-use borrow.Author.Tests.{le-leb, lt-leb}
+use mathlib.Core.Path.{_≡_, sym}
 use denote.Ref.{now}
 use lib.ListN.{getD}
-use Rattle.slots.specs.View.{poolOf, waiterOf}
+use Rattle.slots.specs.View.{SlotPool, poolOf, idAt}
 use Rattle.slots.specs.Parts.{id-at}
-use Rattle.checkout.specs.Laws.{lent-gone, lent-heard}
+use Rattle.checkout.specs.Lending.{lent-gone, lent-heard}
 use borrow.Author.Needs.{needs}
 use Rattle.checkout.proofs.lend.Statement.{statement}
 use Rattle.checkout.proofs.lend.Tie as tie
-use Rattle.checkout.proofs.lend.Reads as reads
-use Rattle.checkout.proofs.lend.Lts as lts
-use Rattle.acts.proofs.reply.Reads as reply-reads
-use Rattle.acts.proofs.shelve.Reads as shelve-reads
-use Rattle.acts.proofs.set_state.Reads as set-state-reads
+
+-- the pool that the function is lent, and what it reads as the connection's id
+abbrev lent : tie.Start → SlotPool
+lent s = let a = s .args in poolOf (a .head) (now (a .numbers)) (now (a .times)) (now (a .states)) (now (a .waiters))
+
+id : (s : tie.Start) → getD (now (s .args .numbers)) (s .args .i) 0 ≡ idAt (lent s) (s .args .i)
+id s =
+    let a = s .args in
+    sym (id-at (a .head) (now (a .numbers)) (now (a .times)) (now (a .states)) (now (a .waiters)) (a .i) (s .pre .1 .slot))
+
+-- once the waiter is told
+abbrev start : tie.After-reply → tie.Start
+start d = d .before .before .before .before
+
+-- the pools that the function leaves
+abbrev left-gone : tie.After-shelve → SlotPool
+left-gone d = let k = d .shelve in poolOf (k .result) (k .last .1 .0) (k .last .1 .1 .0) (k .last .1 .1 .1 .0) (k .last .1 .1 .1 .1 .0)
+
+abbrev left-heard : tie.Start → tie.After-set-state → SlotPool
+left-heard s d = let k = d .set-state in poolOf (s .args .head) (k .last .1 .0) (k .last .1 .1 .0) (k .last .1 .1 .1 .0) (k .last .1 .1 .1 .1 .0)
 
 mul-reply : tie.Need-mul-reply
 mul-reply c = search needs
@@ -34,9 +48,10 @@ same-length c = search needs
 
 returns : tie.Need-returns
 returns c =
-    let a = c .before .before .before .before .before .before .before .before .before .before .before .before .args in
-    let i = a .i in
-    lent-gone (waiterOf (a .waiter)) i (getD (now (a .numbers)) i 0) (poolOf (a .head) (now (a .numbers)) (now (a .times)) (now (a .states)) (now (a .waiters))) _ (sym (id-at (a .head) (now (a .numbers)) (now (a .times)) (now (a .states)) (now (a .waiters)) i (c .before .before .before .before .before .before .before .before .before .before .before .before .pre .1 .slot))) (c .before .before .before .before .before .before .before .before .reply .ensures) (le-leb _ _ (c .before .before .before .before .before .if1 .taken)) (c .shelve .ensures)
+    let gone = c .before .before .before .before .before in
+    let told = gone .before .before .before in
+    let s = start told in
+    lent-gone (s .args .waiter) (s .args .i) (lent s) (id s) (told .reply .ensures) (left-gone c) (gone .if1 .taken) (c .shelve .ensures)
 
 set-state-requires : tie.Need-set-state-requires
 set-state-requires c κs = search needs
@@ -49,9 +64,10 @@ same-length-2 c = search needs
 
 returns-2 : tie.Need-returns-2
 returns-2 c =
-    let a = c .before .before .before .before .before .before .before .before .before .before .before .before .args in
-    let i = a .i in
-    lent-heard (waiterOf (a .waiter)) i (getD (now (a .numbers)) i 0) (poolOf (a .head) (now (a .numbers)) (now (a .times)) (now (a .states)) (now (a .waiters))) _ (sym (id-at (a .head) (now (a .numbers)) (now (a .times)) (now (a .states)) (now (a .waiters)) i (c .before .before .before .before .before .before .before .before .before .before .before .before .pre .1 .slot))) (c .before .before .before .before .before .before .before .before .reply .ensures) (lt-leb _ _ (c .before .before .before .before .before .if1 .left)) (c .set-state .ensures)
+    let heard = c .before .before .before .before .before in
+    let told = heard .before .before .before in
+    let s = start told in
+    lent-heard (s .args .waiter) (s .args .i) (lent s) (id s) (told .reply .ensures) (left-heard s c) (heard .if1 .left) (c .set-state .ensures)
 
 pub lend-spec : {M : Type 1} → statement M
 lend-spec =

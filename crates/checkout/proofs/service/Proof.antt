@@ -1,32 +1,34 @@
-use mathlib.Core.Path.{_≡_, sym, _∙_}
-use mathlib.Core.Bool.{true}
-use Prim.Native.Nat.{_-_}
 use borrow.Author.Tests.{not-true, not-false}
 use denote.Ref.{now}
-use Rattle.slots.specs.View.{poolOf}
-use Rattle.slots.specs.Slots.{canService}
-use Rattle.checkout.specs.Laws.{service-shut, service-none, served, served-whole, served-takes, served-warms}
+use Rattle.slots.specs.View.{SlotPool, poolOf}
+use Rattle.checkout.specs.Serving.{service-shut, service-none, serve-checks, served}
 use borrow.Author.Needs.{needs}
 use Rattle.checkout.proofs.service.Statement.{statement}
 use Rattle.checkout.proofs.service.Tie as tie
-use Rattle.checkout.proofs.service.Reads as reads
-use Rattle.checkout.proofs.service.Lts as lts
-use Rattle.checkout.proofs.can_service_connection_request.Reads as can-service-connection-request-reads
-use Rattle.checkout.proofs.check_out.Reads as check-out-reads
-use Rattle.table.proofs.shift_waiters.Reads as shift-waiters-reads
 
--- the test that the code made
-opens : (c : tie.Else1) → canService (poolOf (c .before .before .before .args .head) (now (c .before .before .before .args .numbers)) (now (c .before .before .before .args .times)) (now (c .before .before .before .args .states)) (now (c .before .before .before .args .waiters))) ≡ true
-opens c = sym (c .before .can-service-connection-request .ensures) ∙ not-false _ (c .if1 .left)
+-- the pool that the function is lent, and the one that it leaves
+abbrev lent : tie.Start → SlotPool
+lent s = let a = s .args in poolOf (a .head) (now (a .numbers)) (now (a .times)) (now (a .states)) (now (a .waiters))
+
+abbrev left : tie.After-check-out → SlotPool
+left d = let k = d .check-out in poolOf (k .result .head) (k .last .1 .0) (k .last .1 .1 .0) (k .last .1 .1 .1 .0) (k .last .1 .1 .1 .1 .0)
+
+-- where the front has left, seen from where it was checked out
+abbrev gone : tie.After-check-out → tie.After-shift-waiters
+gone d = d .before .before .before .before .before .before
 
 can-service-connection-request-requires : tie.Need-can-service-connection-request-requires
 can-service-connection-request-requires c κs = search needs
 
 returns : tie.Need-returns
-returns c = service-shut (poolOf (c .before .before .before .args .head) (now (c .before .before .before .args .numbers)) (now (c .before .before .before .args .times)) (now (c .before .before .before .args .states)) (now (c .before .before .before .args .waiters))) (sym (c .before .can-service-connection-request .ensures) ∙ not-true _ (c .if1 .taken))
+returns c =
+    let d = c .before in
+    service-shut (lent (d .before .before)) (d .can-service-connection-request .ensures) (not-true _ (c .if1 .taken))
 
 returns-2 : tie.Need-returns-2
-returns-2 c = service-none (poolOf (c .before .before .before .before .args .head) (now (c .before .before .before .before .args .numbers)) (now (c .before .before .before .before .args .times)) (now (c .before .before .before .before .args .states)) (now (c .before .before .before .before .args .waiters))) (opens (c .before)) (c .if2 .taken)
+returns-2 c =
+    let d = c .before .before in
+    service-none (lent (d .before .before)) (d .can-service-connection-request .ensures) (not-false _ (c .before .if1 .left)) (c .if2 .taken)
 
 element-copy-out-waiter : tie.Need-element-copy-out-waiter
 element-copy-out-waiter c = search needs
@@ -39,18 +41,24 @@ sub-h c = search needs
 
 check-out-requires : tie.Need-check-out-requires
 check-out-requires c κs =
-    let a = c .before .before .before .before .before .before .before .before .before .before .before .before .args in
-    let r = c .before .before .before .before .before .before .before .before .before .before .before .before .pre in
-    let n = a .head .«waiting_count» - 1 in
-    (served-whole (poolOf (a .head) (now (a .numbers)) (now (a .times)) (now (a .states)) (now (a .waiters))) _ n (r .1) (r .0) (c .before .before .before .before .before .before .before .before .if2 .left) (c .before .before .before .before .before .shift-waiters .ensures), served-takes (poolOf (a .head) (now (a .numbers)) (now (a .times)) (now (a .states)) (now (a .waiters))) _ n (r .1) (opens (c .before .before .before .before .before .before .before .before .before)), served-warms (poolOf (a .head) (now (a .numbers)) (now (a .times)) (now (a .states)) (now (a .waiters))) _ n (r .1), r .2)
+    let g = c .before .before .before .before .before in
+    let some = g .before .before .before in
+    let d = some .before .before in
+    let s = d .before .before in
+    serve-checks (lent s) (d .can-service-connection-request .ensures) (not-false _ (some .before .if1 .left)) (some .if2 .left)
+    (g .shift-waiters .last .0) (g .shift-waiters .ensures) (s .args .n) (now (s .args .out)) (s .pre)
 
 same-length : tie.Need-same-length
 same-length c = search needs
 
 returns-3 : tie.Need-returns-3
 returns-3 c =
-    let a = c .before .before .before .before .before .before .before .before .before .before .before .before .before .before .before .args in
-    served (poolOf (a .head) (now (a .numbers)) (now (a .times)) (now (a .states)) (now (a .waiters))) (opens (c .before .before .before .before .before .before .before .before .before .before .before .before)) (c .before .before .before .before .before .before .before .before .before .before .before .if2 .left) (c .before .before .before .before .before .before .before .before .shift-waiters .ensures) (c .before .before .check-out .ensures)
+    let e = c .before .before in
+    let g = gone e in
+    let some = g .before .before .before in
+    let d = some .before .before in
+    served (lent (d .before .before)) (d .can-service-connection-request .ensures) (not-false _ (some .before .if1 .left)) (some .if2 .left)
+    (g .shift-waiters .last .0) (g .shift-waiters .ensures) {q = left e} (e .check-out .ensures)
 
 pub service-spec : {M : Type 1} → statement M
 service-spec =

@@ -1,124 +1,117 @@
-use mathlib.Core.Path.{_≡_, refl, sym, _∙_}
-use Prim.Native.Nat.{_-_, _<_}
 use native.Mathlib.Omega.{arith}
-use lib.ListN.{getD}
-use Rattle.definition.specs.Pool.{slotCount}
+use denote.Ref.{now}
 use Rattle.slots.specs.View.{SlotPool, poolOf, waiterOf}
-use Rattle.slots.specs.Parts.{available-at}
-use Rattle.slots.specs.DoneLaws.{underway-start}
-use Rattle.slots.specs.ActLaws.{perishedNoAt, perished-at}
-use Rattle.checkout.specs.Laws.{Taking, Turn, turn-reason, turn-whole, turn-shelves, turn-closes, taking-lent, taking-step, taking-creates, taking-ends}
+use Rattle.slots.specs.Slots.{takeFrom}
+use Rattle.checkout.specs.Taking.{Taking, take-start, take-looks, take-pops, take-lends, taken-lent, take-closes, take-turns, take-creates, taken-none}
 use borrow.Author.Needs.{needs}
 use Rattle.checkout.proofs.take_available.Statement.{statement}
 use Rattle.checkout.proofs.take_available.Tie as tie
-use Rattle.checkout.proofs.take_available.Reads as reads
-use Rattle.checkout.proofs.take_available.Lts as lts
-use Rattle.acts.proofs.close_connection.Reads as close-connection-reads
-use Rattle.conditions.proofs.perished.Reads as perished-reads
-use Rattle.acts.proofs.pop_back.Reads as pop-back-reads
-use Rattle.words.proofs.as_index.Reads as as-index-reads
-use Rattle.checkout.proofs.establish.Reads as establish-reads
-use Rattle.checkout.proofs.lend.Reads as lend-reads
 
 abbrev Inv-loop : tie.InvT-loop
-Inv-loop cells₀ times₀ seats₀ waiters₀ out₀ n waiter h₀ count₀ k₀ numbers times states waiters out h count k = Taking (waiterOf waiter) (h₀ .serial) k₀ count₀ (poolOf h₀ cells₀ times₀ seats₀ waiters₀) out₀ k count (poolOf h numbers times states waiters) out
+Inv-loop numbers₀ times₀ states₀ waiters₀ out₀ n waiter h₀ count₀ k₀ numbers times states waiters out h count k =
+    Taking (waiterOf waiter) (takeFrom k₀ (waiterOf waiter) (poolOf h₀ numbers₀ times₀ states₀ waiters₀)) (h₀ .serial) count₀ out₀ k count
+    (poolOf h numbers times states waiters) out
 
 abbrev μ-loop : tie.MeasureT-loop
-μ-loop cells₀ times₀ seats₀ waiters₀ out₀ n waiter h₀ count₀ k₀ numbers times states waiters out h count k = k
+μ-loop numbers₀ times₀ states₀ waiters₀ out₀ n waiter h₀ count₀ k₀ numbers times states waiters out h count k = k
 
--- the pool that the parts make as a turn starts
-abbrev at : tie.At-loop Inv-loop μ-loop → SlotPool
-at l = poolOf (l .loop .h) (l .loop .numbers) (l .loop .times) (l .loop .states) (l .loop .waiters)
+-- the pool that the function is lent
+abbrev lent : tie.Start Inv-loop μ-loop → SlotPool
+lent s = let a = s .args in poolOf (a .head) (now (a .numbers)) (now (a .times)) (now (a .states)) (now (a .waiters))
 
--- the slot at the back
-back : (c : tie.After-as-index Inv-loop μ-loop) → c .as-index .result ≡ getD (at (c .before .before .before) .available) (c .before .before .before .loop .k - 1) 0
-back c = let l = c .before .before .before .loop in c .as-index .ensures ∙ sym (available-at (l .h) (l .numbers) (l .times) (l .states) (l .waiters) (l .k - 1))
+-- places of a turn: its start, seen from where the back was looked at; and that, from where it has left
+abbrev start : tie.After-examine Inv-loop μ-loop → tie.In-loop Inv-loop μ-loop
+start d = d .before .before .before .before
 
-inside : (c : tie.After-as-index Inv-loop μ-loop) → c .as-index .result < slotCount
-inside c = omega (arith, back c, c .before .before .before .loop .inv .safe .prune .listed (c .before .before .before .loop .k - 1))
+abbrev looked : tie.After-pop-back Inv-loop μ-loop → tie.After-examine Inv-loop μ-loop
+looked d = d .before .before .before .before .before
 
--- why it is closed
-why : (c : tie.After-perished Inv-loop μ-loop) → c .perished .result ≡ perishedNoAt (at (c .before .before .before .before .before .before .before .before)) (c .before .before .before .before .before .as-index .result)
-why c = let l = c .before .before .before .before .before .before .before .before .loop in c .perished .ensures ∙ perished-at (l .h) (l .numbers) (l .times) (l .states) (l .waiters) (l .inv .whole) (c .before .before .before .before .before .as-index .result) (inside (c .before .before .before .before .before))
+-- where it is healthy, seen from where it was lent; where it is not, from where it was closed
+abbrev healthy : tie.After-lend Inv-loop μ-loop → tie.Then1 Inv-loop μ-loop
+healthy d = d .before .before .before .before .before .before
 
-setState : (c : tie.After-perished Inv-loop μ-loop) → Turn (c .before .before .before .before .before .before .before .before .loop .k) (at (c .before .before .before .before .before .before .before .before)) (c .before .before .before .before .before .as-index .result) (c .perished .result)
-setState c = record { more = c .before .before .before .before .before .before .before .loop-test .taken; back = back (c .before .before .before .before .before); code = why c }
+abbrev perished : tie.After-close-connection Inv-loop μ-loop → tie.Else1 Inv-loop μ-loop
+perished d = d .before .before .before .before .before .before
+
+-- the pool that the back has left, and those in which it is lent, or closed, or another created
+abbrev popped : tie.After-pop-back Inv-loop μ-loop → SlotPool
+popped d = let k = d .pop-back in poolOf (k .result) (k .last .1 .0) (k .last .1 .1 .0) (k .last .1 .1 .1 .0) (k .last .1 .1 .1 .1 .0)
+
+abbrev left-lent : tie.After-lend Inv-loop μ-loop → SlotPool
+left-lent d = let k = d .lend in poolOf (k .result .head) (k .last .1 .0) (k .last .1 .1 .0) (k .last .1 .1 .1 .0) (k .last .1 .1 .1 .1 .0)
+
+abbrev left-closed : tie.After-close-connection Inv-loop μ-loop → SlotPool
+left-closed d = let k = d .close-connection in poolOf (k .result .head) (k .last .1 .0) (k .last .1 .1 .0) (k .last .1 .1 .1 .0) (k .last .1 .1 .1 .1 .0)
+
+abbrev left-created : tie.After-establish Inv-loop μ-loop → SlotPool
+left-created d = let k = d .establish in poolOf (k .result .head) (k .last .1 .0) (k .last .1 .1 .0) (k .last .1 .1 .1 .0) (k .last .1 .1 .1 .1 .0)
 
 loop-holds : tie.Need-loop-holds Inv-loop μ-loop
-loop-holds c = record { told = underway-start _ _ _ _; safe = c .before .pre .1; count = refl; whole = c .before .pre .0; room = c .before .pre .2; same = refl; serial = refl }
+loop-holds c = take-start (waiterOf (c .before .args .waiter)) (lent (c .before)) (c .before .pre)
 
 sub-k : tie.Need-sub-k Inv-loop μ-loop
 sub-k c = omega arith
 
-add-as-index : tie.Need-add-as-index Inv-loop μ-loop
-add-as-index c = let v = c .before .loop .inv in omega (arith, v .safe .prune .fits, v .count)
-
-element-copy-out-as-index : tie.Need-element-copy-out-as-index Inv-loop μ-loop
-element-copy-out-as-index c = let v = c .before .loop .inv in omega (arith, v .safe .prune .fits, v .count)
-
-as-index-requires : tie.Need-as-index-requires Inv-loop μ-loop
-as-index-requires c κs = search needs
-
-add-perished : tie.Need-add-perished Inv-loop μ-loop
-add-perished c = omega (arith, inside (c .before .before))
-
-mul-perished : tie.Need-mul-perished Inv-loop μ-loop
-mul-perished c = omega (arith, inside (c .before .before))
-
-element-copy-out-perished : tie.Need-element-copy-out-perished Inv-loop μ-loop
-element-copy-out-perished c = omega (arith, inside (c .before .before))
-
-mul-perished-2 : tie.Need-mul-perished-2 Inv-loop μ-loop
-mul-perished-2 c = omega (arith, inside (c .before .before .before))
-
-element-copy-out-perished-2 : tie.Need-element-copy-out-perished-2 Inv-loop μ-loop
-element-copy-out-perished-2 c = inside (c .before .before .before)
-
-perished-requires : tie.Need-perished-requires Inv-loop μ-loop
-perished-requires c κs = search needs
+examine-requires : tie.Need-examine-requires Inv-loop μ-loop
+examine-requires c κs = let t = c .before .before .before in take-looks (t .before .loop .inv) _ (omega (arith, t .loop-test .taken))
 
 pop-back-requires : tie.Need-pop-back-requires Inv-loop μ-loop
-pop-back-requires c κs =
-    let v = c .before .before .before .before .before .before .before .before .before .before .before .before .loop .inv in
-    (v .whole, v .safe .prune, omega (arith, v .count, c .before .before .before .before .before .before .before .before .before .before .before .loop-test .taken))
+pop-back-requires c κs = let t = start (c .before .before .before .before) in take-pops (t .before .loop .inv) (t .loop-test .taken)
 
 lend-requires : tie.Need-lend-requires Inv-loop μ-loop
 lend-requires c κs =
-    let v = c .before .before .before .before .before .before .before .before .before .before .before .before .before .before .before .before .before .before .before .loop .inv in
-    let t = setState (c .before .before .before .before .before .before .before .before .before .before .before) in
-    let e = c .before .before .before .before .before .before .pop-back .ensures in
-    (turn-whole v t e, turn-shelves v t e, (omega (arith, v .room .0), omega (arith, v .room .1)))
+    let p = c .before .before .before .before .before .before in
+    let d = looked p in
+    let t = start d in
+    take-lends (t .before .loop .inv) (t .loop-test .taken) (d .examine .ensures .slot) (d .examine .ensures .reason) {q₁ = popped p} (p .pop-back .ensures)
 
 same-length : tie.Need-same-length Inv-loop μ-loop
-same-length c = omega (arith, c .before .before .before .before .before .before .before .before .before .before .before .before .before .before .before .before .before .before .before .before .before .before .loop .inv .same)
+same-length c =
+    let p = healthy (c .before .before) .before in
+    omega (arith, start (looked p) .before .loop .inv .sweep .same)
 
 returns : tie.Need-returns Inv-loop μ-loop
-returns c = taking-lent (c .before .before .before .before .before .before .before .before .before .before .before .before .before .before .before .before .before .before .before .before .before .before .loop .inv) (setState (c .before .before .before .before .before .before .before .before .before .before .before .before .before .before)) (c .before .before .before .before .before .before .before .before .before .pop-back .ensures) (c .before .before .before .before .before .before .before .before .if1 .taken) (c .before .before .lend .ensures)
+returns c =
+    let l = c .before .before in
+    let p = healthy l .before in
+    let d = looked p in
+    let t = start d in
+    taken-lent (t .before .loop .inv) (t .loop-test .taken) (d .examine .ensures .slot) (d .examine .ensures .reason) {q₁ = popped p} (p .pop-back .ensures)
+    (healthy l .if1 .taken) {q' = left-lent l} (l .lend .ensures)
 
 close-connection-requires : tie.Need-close-connection-requires Inv-loop μ-loop
 close-connection-requires c κs =
-    let v = c .before .before .before .before .before .before .before .before .before .before .before .before .before .before .before .before .before .before .before .loop .inv in
-    let t = setState (c .before .before .before .before .before .before .before .before .before .before .before) in
-    let e = c .before .before .before .before .before .before .pop-back .ensures in
-    let k = turn-reason t (c .before .before .before .before .before .if1 .left) in
-    (turn-whole v t e, turn-closes v t e, (omega (arith, v .room .0), omega (arith, v .room .1)), k .0, k .1)
+    let x = c .before .before .before .before .before in
+    let p = x .before in
+    let d = looked p in
+    let t = start d in
+    take-closes (t .before .loop .inv) (t .loop-test .taken) (d .examine .ensures .slot) (d .examine .ensures .reason) {q₁ = popped p} (p .pop-back .ensures)
+    (x .if1 .left)
 
 loop-less : tie.Need-loop-less Inv-loop μ-loop
-loop-less c = omega (arith, c .before .before .before .before .before .before .before .before .before .before .before .before .before .before .before .before .before .before .before .before .before .before .loop-test .taken)
+loop-less c = omega (arith, start (looked (perished (c .before .before .before) .before)) .loop-test .taken)
 
 loop-again : tie.Need-loop-again Inv-loop μ-loop
-loop-again c = taking-step (c .before .before .before .before .before .before .before .before .before .before .before .before .before .before .before .before .before .before .before .before .before .before .before .loop .inv) (setState (c .before .before .before .before .before .before .before .before .before .before .before .before .before .before .before)) (c .before .before .before .before .before .before .before .before .before .before .pop-back .ensures) (c .before .before .before .before .before .before .before .before .before .if1 .left) (c .before .before .before .close-connection .ensures) (search needs)
+loop-again c =
+    let s = c .before .before .before in
+    let x = perished s in
+    let p = x .before in
+    let d = looked p in
+    let t = start d in
+    take-turns (t .before .loop .inv) (t .loop-test .taken) (d .examine .ensures .slot) (d .examine .ensures .reason) {q₁ = popped p} (p .pop-back .ensures)
+    (x .if1 .left) (left-closed s) (s .close-connection .ensures) (search needs)
 
 establish-requires : tie.Need-establish-requires Inv-loop μ-loop
-establish-requires c κs =
-    let v = c .before .before .before .before .before .before .loop .inv in
-    (v .whole, taking-creates v (omega arith), (omega (arith, v .room .0), omega (arith, v .room .1)))
+establish-requires c κs = let t = c .before .before .before .before .before in take-creates (t .before .loop .inv) (omega arith)
 
 same-length-2 : tie.Need-same-length-2 Inv-loop μ-loop
 same-length-2 c = search needs
 
 returns-2 : tie.Need-returns-2 Inv-loop μ-loop
-returns-2 c = taking-ends (c .before .before .before .before .before .before .before .before .before .loop .inv) (omega arith) (c .before .before .establish .ensures)
+returns-2 c =
+    let s = c .before .before in
+    let t = s .before .before .before .before .before .before in
+    taken-none (t .before .loop .inv) (omega arith) {q' = left-created s} (s .establish .ensures)
 
 pub take-available-spec : {M : Type 1} → statement M
 take-available-spec =
@@ -128,15 +121,7 @@ take-available-spec =
     μ-loop
     loop-holds
     sub-k
-    add-as-index
-    element-copy-out-as-index
-    as-index-requires
-    add-perished
-    mul-perished
-    element-copy-out-perished
-    mul-perished-2
-    element-copy-out-perished-2
-    perished-requires
+    examine-requires
     pop-back-requires
     lend-requires
     same-length

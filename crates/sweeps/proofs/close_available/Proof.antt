@@ -6,14 +6,16 @@ use Rattle.definition.specs.Words.{if_then_else_}
 use Rattle.slots.specs.View.{SlotPool, poolOf}
 use Rattle.slots.specs.Parts.{available-at}
 use Rattle.slots.specs.Slots.{closeFront}
-use Rattle.sweeps.specs.Sweeping.{Sweeping, sweep-start, front-leaves, front-closes, front-turns, closed-all}
+use Rattle.slots.specs.Sweep.{Sweeping, sweep-pops}
+use Rattle.sweeps.specs.Sweeping.{front-start, front-closes, front-turns, closed-all}
 use borrow.Author.Needs.{needs}
 use Rattle.sweeps.proofs.close_available.Statement.{statement}
 use Rattle.sweeps.proofs.close_available.Tie as tie
 
 abbrev Inv-loop : tie.InvT-loop
 Inv-loop numbers₀ times₀ states₀ waiters₀ out₀ n h₀ count₀ k₀ numbers times states waiters out h count k =
-    Sweeping closeFront (closeFront k₀ (poolOf h₀ numbers₀ times₀ states₀ waiters₀)) (h₀ .serial) count₀ out₀ k count (poolOf h numbers times states waiters) out
+    Sweeping closeFront 0 (closeFront k₀ (poolOf h₀ numbers₀ times₀ states₀ waiters₀)) (h₀ .serial) count₀ out₀ k count
+    (poolOf h numbers times states waiters) out
 
 abbrev μ-loop : tie.MeasureT-loop
 μ-loop numbers₀ times₀ states₀ waiters₀ out₀ n h₀ count₀ k₀ numbers times states waiters out h count k = k
@@ -46,7 +48,7 @@ front d =
     d .as-index .ensures ∙ sym (available-at (w .h) (w .numbers) (w .times) (w .states) (w .waiters) 0 (omega arith))
 
 loop-holds : tie.Need-loop-holds Inv-loop μ-loop
-loop-holds c = sweep-start closeFront (lent (c .before)) refl (c .before .pre)
+loop-holds c = front-start closeFront (lent (c .before)) refl (c .before .pre)
 
 element-copy-out-as-index : tie.Need-element-copy-out-as-index Inv-loop μ-loop
 element-copy-out-as-index c = search needs
@@ -57,7 +59,7 @@ as-index-requires c κs = search needs
 pop-front-requires : tie.Need-pop-front-requires Inv-loop μ-loop
 pop-front-requires c κs =
     let t = c .before .before .before .before .before .before in
-    front-leaves (t .before .loop .inv) (t .loop-test .taken)
+    sweep-pops (t .before .loop .inv) (t .loop-test .taken)
 
 close-connection-requires : tie.Need-close-connection-requires Inv-loop μ-loop
 close-connection-requires c κs =

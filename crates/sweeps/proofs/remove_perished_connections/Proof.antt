@@ -3,14 +3,16 @@ use native.Mathlib.Omega.{arith}
 use denote.Ref.{now}
 use Rattle.slots.specs.View.{SlotPool, poolOf}
 use Rattle.slots.specs.Slots.{prune, removePerished}
-use Rattle.sweeps.specs.Sweeping.{Sweeping, sweep-start, front-leaves, prune-looks, prune-closes, prune-turns, pruned-some, pruned-all}
+use Rattle.slots.specs.Sweep.{Sweeping, sweep-pops}
+use Rattle.sweeps.specs.Sweeping.{front-start, prune-looks, prune-closes, prune-turns, pruned-some, pruned-all}
 use borrow.Author.Needs.{needs}
 use Rattle.sweeps.proofs.remove_perished_connections.Statement.{statement}
 use Rattle.sweeps.proofs.remove_perished_connections.Tie as tie
 
 abbrev Inv-loop : tie.InvT-loop
 Inv-loop numbers₀ times₀ states₀ waiters₀ out₀ n h₀ count₀ k₀ numbers times states waiters out h count k =
-    Sweeping prune (removePerished (poolOf h₀ numbers₀ times₀ states₀ waiters₀)) (h₀ .serial) count₀ out₀ k count (poolOf h numbers times states waiters) out
+    Sweeping prune 0 (removePerished (poolOf h₀ numbers₀ times₀ states₀ waiters₀)) (h₀ .serial) count₀ out₀ k count
+    (poolOf h numbers times states waiters) out
 
 abbrev μ-loop : tie.MeasureT-loop
 μ-loop numbers₀ times₀ states₀ waiters₀ out₀ n h₀ count₀ k₀ numbers times states waiters out h count k = k
@@ -38,7 +40,7 @@ left d = let k = d .close-connection in poolOf (k .result .head) (k .last .1 .0)
 
 loop-holds : tie.Need-loop-holds Inv-loop μ-loop
 unfolding removePerished
-loop-holds c = sweep-start prune (lent (c .before)) refl (c .before .pre)
+loop-holds c = front-start prune (lent (c .before)) refl (c .before .pre)
 
 examine-requires : tie.Need-examine-requires Inv-loop μ-loop
 examine-requires c κs = prune-looks (c .before .before .before .before .loop .inv)
@@ -52,7 +54,7 @@ returns c =
     pruned-some (start d .before .loop .inv) (d .examine .ensures .slot) (d .examine .ensures .reason) (c .if1 .taken)
 
 pop-front-requires : tie.Need-pop-front-requires Inv-loop μ-loop
-pop-front-requires c κs = let t = start (c .before .before .before .before .before) in front-leaves (t .before .loop .inv) (t .loop-test .taken)
+pop-front-requires c κs = let t = start (c .before .before .before .before .before) in sweep-pops (t .before .loop .inv) (t .loop-test .taken)
 
 close-connection-requires : tie.Need-close-connection-requires Inv-loop μ-loop
 close-connection-requires c κs =

@@ -3,13 +3,13 @@ use mathlib.Core.Path.{_≡_, refl}
 use mathlib.Core.Bool.{Bool, true, false}
 use mathlib.Core.List.{List, [], _∷_}
 use mathlib.Core.Option.{none}
-use Prim.Native.Nat.{ℕ}
+use Prim.Native.Nat.{ℕ, zero, suc, _≤_}
 use native.Mathlib.Omega.{arith}
 use borrow.Author.Tests.{eqb-true}
 use Rattle.definition.specs.Words.{if_then_else_, _=?_}
-use Rattle.definition.specs.Pool.{Conn, find}
+use Rattle.definition.specs.Pool.{Conn, find, stateNo, stateOfNo}
 use Rattle.definition.specs.Refusals.{Test, _if_, first}
-use Rattle.definition.specs.Types.{Refusal}
+use Rattle.definition.specs.Types.{PinnedState, InUse, Returned, Purpose, Request, Background, ConnectionState, Vacant, CheckedIn, CheckedOut, Pinned, Pending, Refusal}
 
 found : (n : ℕ) (c d : Conn) (b : Bool) → (c .id =? n) ≡ b → d .id ≡ n → (if b then c else d) .id ≡ n
 unfolding if_then_else_
@@ -20,6 +20,26 @@ found n c d false e h = h
 pub find-id : (n : ℕ) (l : List Conn) → find n l .id ≡ n
 find-id n [] = refl
 find-id n (c ∷ l) = found n c (find n l) (c .id =? n) refl (find-id n l)
+
+-- a state is that of its number, and a number up to 6 that of its state
+pub state-back : (s : ConnectionState) → stateOfNo (stateNo s) ≡ s
+state-back Vacant = refl
+state-back CheckedIn = refl
+state-back CheckedOut = refl
+state-back (Pinned InUse) = refl
+state-back (Pinned Returned) = refl
+state-back (Pending Request) = refl
+state-back (Pending Background) = refl
+
+pub number-back : (n : ℕ) → n ≤ 6 → stateNo (stateOfNo n) ≡ n
+number-back zero h = refl
+number-back (suc zero) h = refl
+number-back (suc (suc zero)) h = refl
+number-back (suc (suc (suc zero))) h = refl
+number-back (suc (suc (suc (suc zero)))) h = refl
+number-back (suc (suc (suc (suc (suc zero))))) h = refl
+number-back (suc (suc (suc (suc (suc (suc zero)))))) h = refl
+number-back (suc (suc (suc (suc (suc (suc (suc n))))))) h = absurd (omega arith)
 
 -- where no test refuses, the first does not, and none of the others
 pub not-first : (r : Refusal) (b : Bool) (ts : List Test) → first ((r if b) ∷ ts) ≡ none → (b ≡ false) × (first ts ≡ none)

@@ -1,7 +1,7 @@
 -- What a pool is: its options, its connections in three lists, its queue, and the numbers that it goes on from.
 use mathlib.Core.Bool.{Bool, true, false, not, _&&_, _||_}
 use mathlib.Core.List.{List, [], _∷_}
-use Prim.Native.Nat.{ℕ, _+_, _-_}
+use Prim.Native.Nat.{ℕ, zero, suc, _+_, _-_}
 use lib.ListN.{length}
 use Rattle.definition.specs.Words.{if_then_else_, _<?_, _≤?_, _=?_, any?}
 use Rattle.definition.specs.Types.{Options, PoolState, New, Paused, Ready, Closed, PinnedState, InUse, Returned, Purpose, Request, Background, ConnectionState, Vacant, CheckedIn, CheckedOut, Pinned, Pending}
@@ -194,6 +194,17 @@ stateNo (Pinned InUse) = 3
 stateNo (Pinned Returned) = 4
 stateNo (Pending Request) = 5
 stateNo (Pending Background) = 6
+
+-- the state of a number; a number of no state is taken for 0
+abbrev pub stateOfNo : ℕ → ConnectionState
+stateOfNo zero = Vacant
+stateOfNo (suc zero) = CheckedIn
+stateOfNo (suc (suc zero)) = CheckedOut
+stateOfNo (suc (suc (suc zero))) = Pinned InUse
+stateOfNo (suc (suc (suc (suc zero)))) = Pinned Returned
+stateOfNo (suc (suc (suc (suc (suc zero))))) = Pending Request
+stateOfNo (suc (suc (suc (suc (suc (suc zero)))))) = Pending Background
+stateOfNo (suc (suc (suc (suc (suc (suc (suc n))))))) = Vacant
 
 -- lent and unpinned; pinned and in use; pinned, in use or returned; pending for a request; pending in background
 abbrev pub unpinned : ConnectionState → Bool

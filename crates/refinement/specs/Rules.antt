@@ -10,12 +10,9 @@ use lib.ListN.{length, getD, take, length-map}
 use lib.Seq.{length-take-le}
 use borrow.Author.Tests.{eq-eqb, ne-eqb}
 use Rattle.definition.specs.Words.{if_then_else_, _=?_}
-use Rattle.definition.specs.Pool.{queueLength, slotCount, Pool, Conn, without, stateNo}
+use Rattle.definition.specs.Pool.{queueLength, slotCount, Pool, Conn, without, stateOfNo}
 use Rattle.definition.specs.Refusals.{mostNextId}
-use Rattle.definition.specs.declared.ConnectionState.{ConnectionState}
-use Rattle.definition.specs.declared.ConnectionState.the-variants.{Vacant, CheckedIn, CheckedOut, Pinned, Pending}
-use Rattle.definition.specs.declared.PinnedState.the-variants.{InUse, Returned}
-use Rattle.definition.specs.declared.Purpose.the-variants.{Request, Background}
+use Rattle.definition.specs.Laws.{number-back}
 use Rattle.slots.specs.View.{SlotPool, Slot, Whole, vacant}
 use Rattle.slots.specs.View as View
 use Rattle.slots.specs.Slots as S
@@ -30,30 +27,11 @@ use Rattle.refinement.specs.Needs.{whole}
 
 -- ── The connections of a class, in the order of their slots ────────────────────────────────────────────────────────────
 
--- a state by its number
-abbrev pub stateBy : ℕ → ConnectionState
-stateBy zero = Vacant
-stateBy (suc zero) = CheckedIn
-stateBy (suc (suc zero)) = CheckedOut
-stateBy (suc (suc (suc zero))) = Pinned InUse
-stateBy (suc (suc (suc (suc zero)))) = Pinned Returned
-stateBy (suc (suc (suc (suc (suc zero))))) = Pending Request
-stateBy (suc (suc (suc (suc (suc (suc k)))))) = Pending Background
-
-state-number : (k : ℕ) → k ≤ 6 → stateNo (stateBy k) ≡ k
-state-number zero h = refl
-state-number (suc zero) h = refl
-state-number (suc (suc zero)) h = refl
-state-number (suc (suc (suc zero))) h = refl
-state-number (suc (suc (suc (suc zero)))) h = refl
-state-number (suc (suc (suc (suc (suc zero))))) h = refl
-state-number (suc (suc (suc (suc (suc (suc k)))))) h = omega arith
-
 abbrev pub connOf : ℕ → Slot → Conn
-connOf x s = connIn x s (stateBy (s .state))
+connOf x s = connIn x s (stateOfNo (s .state))
 
 cell-of : (x : ℕ) (s : Slot) → s .state ≤ 6 → cell (connOf x s) ≡ s
-cell-of x s h = rw (state-number (s .state) h)
+cell-of x s h = rw (number-back (s .state) h)
 
 unfoldable pub collect : Class → List ℕ → List Slot → List Conn
 collect t [] ss = []
@@ -149,12 +127,12 @@ as-many t xs ss l u us a =
     (λ e. ap (λ (x : ℕ). lookup x l) e ∙ a .named ∙ sym (c .named) ∙ ap (λ (x : ℕ). lookup x (collect t xs ss)) (sym e))
     (λ d. sym (a .finds n (omega (arith, d))) ∙ c .finds n (omega (arith, d))))
 
-abbrev pub bit : Bool → ℕ
-bit true = 1
-bit false = 0
+abbrev pub oneIf : Bool → ℕ
+oneIf true = 1
+oneIf false = 0
 
 -- a state is of exactly one class
-tally : (k : ℕ) → 0 < k → k ≤ 6 → bit (isShelved k) + bit (isLent k) + bit (isPending k) ≡ 1
+tally : (k : ℕ) → 0 < k → k ≤ 6 → oneIf (isShelved k) + oneIf (isLent k) + oneIf (isPending k) ≡ 1
 tally zero z h = absurd (omega arith)
 tally (suc zero) z h = refl
 tally (suc (suc zero)) z h = refl
@@ -168,9 +146,9 @@ pub many-none : (t : Class) (x : ℕ) (xs : List ℕ) (s : Slot) (ss : List Slot
 unfolding collect if_then_else_
 many-none t x xs s ss e = rw (eq-eqb x 0 e)
 
-pub many-bit : (t : Class) (x : ℕ) (xs : List ℕ) (s : Slot) (ss : List Slot) → (x ≡ 0 → ⊥) → many t (x ∷ xs) (s ∷ ss) ≡ bit (t (s .state)) + many t xs ss
+pub many-oneIf : (t : Class) (x : ℕ) (xs : List ℕ) (s : Slot) (ss : List Slot) → (x ≡ 0 → ⊥) → many t (x ∷ xs) (s ∷ ss) ≡ oneIf (t (s .state)) + many t xs ss
 unfolding collect if_then_else_
-many-bit t x xs s ss n = by-bool (t (s .state)) (λ b. rw (ne-eqb x 0 n, b) (omega arith)) (λ b. rw (ne-eqb x 0 n, b) (omega arith))
+many-oneIf t x xs s ss n = by-bool (t (s .state)) (λ b. rw (ne-eqb x 0 n, b) (omega arith)) (λ b. rw (ne-eqb x 0 n, b) (omega arith))
 
 nothing-taken : (ss : List Slot) → taken [] ≡ many isShelved [] ss + many isLent [] ss + many isPending [] ss
 unfolding taken collect
@@ -188,7 +166,7 @@ split (x ∷ xs) (s ∷ ss) l h =
     by-eq x 0
     (λ e. omega (arith, r, taken-cons x xs, ap one e ∙ one-zero, many-none isShelved x xs s ss e, many-none isLent x xs s ss e, many-none isPending x xs s ss e))
     (λ n. let z : 0 < x = omega (arith, n) in
-    omega (arith, r, taken-cons x xs, one-pos x z, tally (s .state) (h 0 z .0) (h 0 z .1), many-bit isShelved x xs s ss n, many-bit isLent x xs s ss n, many-bit isPending x xs s ss n))
+    omega (arith, r, taken-cons x xs, one-pos x z, tally (s .state) (h 0 z .0) (h 0 z .1), many-oneIf isShelved x xs s ss n, many-oneIf isLent x xs s ss n, many-oneIf isPending x xs s ss n))
 
 -- ── The rules ──────────────────────────────────────────────────────────────────────────────────────────────────────────
 

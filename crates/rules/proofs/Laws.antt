@@ -13,7 +13,7 @@ use Rattle.refinement.specs.Formed.{zeros}
 use Rattle.definition.specs.Pool.{slotCount}
 use Rattle.definition.specs.Words.{_=?_}
 use Rattle.refinement.specs.Table.{by-eq}
-use Rattle.refinement.specs.Rules.{isShelved, bit}
+use Rattle.refinement.specs.Rules.{isShelved, oneIf}
 use Rattle.rules.specs.Tests.{every, tally, among, blankPast, newId, listedAt, orderRight}
 
 -- ── every ──
@@ -70,7 +70,7 @@ module _ (n : ℕ) (l : List ℕ) where
 
 -- ── tally ──
 
-pub tally-more : (n : ℕ) (t : ℕ → Bool) (k b : ℕ) (x : Bool) → k ≡ tally n t → x ≡ t n → b ≡ bit x → k + b ≡ tally (n + 1) t
+pub tally-more : (n : ℕ) (t : ℕ → Bool) (k b : ℕ) (x : Bool) → k ≡ tally n t → x ≡ t n → b ≡ oneIf x → k + b ≡ tally (n + 1) t
 unfolding tally
 tally-more n t k b x a e d = rw (add-one n, ← a, ← e, d)
 
@@ -78,17 +78,17 @@ pub tally-none : (t : ℕ → Bool) → 0 ≡ tally 0 t
 unfolding tally
 tally-none t = refl
 
-bit-small : (b : Bool) → bit b ≤ 1
-bit-small true = omega arith
-bit-small false = omega arith
+oneIf-small : (b : Bool) → oneIf b ≤ 1
+oneIf-small true = omega arith
+oneIf-small false = omega arith
 
 pub tally-small : (n : ℕ) (t : ℕ → Bool) → tally n t ≤ n
 unfolding tally
 tally-small zero t = omega arith
-tally-small (suc n) t = omega (arith, tally-small n t, bit-small (t n))
+tally-small (suc n) t = omega (arith, tally-small n t, oneIf-small (t n))
 
-pub one-small : (b : ℕ) (x : Bool) → b ≡ bit x → b ≤ 1
-one-small b x e = omega (arith, bit-small x)
+pub one-small : (b : ℕ) (x : Bool) → b ≡ oneIf x → b ≤ 1
+one-small b x e = omega (arith, oneIf-small x)
 
 -- ── among ──
 

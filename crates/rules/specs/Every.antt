@@ -13,7 +13,7 @@ use Rattle.refinement.specs.Table.{by-eq, by-bool, one, one-pos, one-zero, or-l
 use Rattle.refinement.specs.Agree.{Class}
 use Rattle.refinement.specs.Mirror.{All, Distinct, all-at}
 use Rattle.refinement.specs.Alike.{Rises}
-use Rattle.refinement.specs.Rules.{many, collect, bit, many-none, many-bit, taken-cons}
+use Rattle.refinement.specs.Rules.{many, collect, oneIf, many-none, many-oneIf, taken-cons}
 use Rattle.rules.specs.Tests.{every, tally, among, isTaken, before}
 
 pub and-left : (a b : Bool) → (a && b) ≡ true → a ≡ true
@@ -91,7 +91,7 @@ past (x ∷ l) d (suc j) h = past l d j (omega arith)
 
 -- ── tally, from the front ──
 
-tally-front : (n : ℕ) (t : ℕ → Bool) → tally (suc n) t ≡ bit (t 0) + tally n (λ j. t (suc j))
+tally-front : (n : ℕ) (t : ℕ → Bool) → tally (suc n) t ≡ oneIf (t 0) + tally n (λ j. t (suc j))
 unfolding tally
 tally-front zero t = omega arith
 tally-front (suc n) t = omega (arith, tally-front n t)
@@ -104,7 +104,7 @@ tally-empty t = refl
 pub tally-same : (n : ℕ) (t u : ℕ → Bool) → ((j : ℕ) → j < n → t j ≡ u j) → tally n t ≡ tally n u
 unfolding tally
 tally-same zero t u h = refl
-tally-same (suc n) t u h = let b : bit (t n) ≡ bit (u n) = ap bit (h n (omega arith)) in omega (arith, tally-same n t u (λ j k. h j (omega arith)))
+tally-same (suc n) t u h = let b : oneIf (t n) ≡ oneIf (u n) = ap oneIf (h n (omega arith)) in omega (arith, tally-same n t u (λ j k. h j (omega arith)))
 
 none-collected : (t : Class) (ss : List Slot) → many t [] ss ≡ 0
 unfolding collect
@@ -121,8 +121,8 @@ many-tally t (x ∷ xs) (s ∷ ss) l h =
     let r = many-tally t xs ss (omega arith) (λ j. h (suc j)) in
     let f = tally-front (length xs) (kinds t (s ∷ ss)) in
     by-eq x 0
-    (λ e. let b : bit (t (s .state)) ≡ 0 = ap bit (h 0 e) in omega (arith, r, f, many-none t x xs s ss e))
-    (λ n. omega (arith, r, f, many-bit t x xs s ss n))
+    (λ e. let b : oneIf (t (s .state)) ≡ 0 = ap oneIf (h 0 e) in omega (arith, r, f, many-none t x xs s ss e))
+    (λ n. omega (arith, r, f, many-oneIf t x xs s ss n))
 
 no-taken : taken [] ≡ 0
 unfolding taken
@@ -136,8 +136,8 @@ taken-tally (x ∷ xs) (s ∷ ss) l h k =
     let r = taken-tally xs ss (omega arith) (λ j. h (suc j)) (λ j. k (suc j)) in
     let f = tally-front (length xs) (kinds isTaken (s ∷ ss)) in
     by-eq x 0
-    (λ e. let b : bit (isTaken (s .state)) ≡ 0 = ap bit (h 0 e) in omega (arith, r, f, taken-cons x xs, ap one e ∙ one-zero))
-    (λ n. let b : bit (isTaken (s .state)) ≡ 1 = ap bit (k 0 (omega (arith, n))) in omega (arith, r, f, taken-cons x xs, one-pos x (omega (arith, n))))
+    (λ e. let b : oneIf (isTaken (s .state)) ≡ 0 = ap oneIf (h 0 e) in omega (arith, r, f, taken-cons x xs, ap one e ∙ one-zero))
+    (λ n. let b : oneIf (isTaken (s .state)) ≡ 1 = ap oneIf (k 0 (omega (arith, n))) in omega (arith, r, f, taken-cons x xs, one-pos x (omega (arith, n))))
 
 -- ── the waiters, by their places ──
 

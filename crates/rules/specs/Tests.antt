@@ -9,7 +9,7 @@ use Rattle.definition.specs.Refusals.{mostNextId}
 use Rattle.slots.specs.declared.Head.{Head}
 use Rattle.refinement.specs.Agree.{Class}
 use Rattle.refinement.specs.Mirror.{isPending}
-use Rattle.refinement.specs.Rules.{isShelved, bit}
+use Rattle.refinement.specs.Rules.{isShelved, oneIf}
 
 -- ── Words: of all places below n; how many of them; among the first n ──────────────────────────────────────────────────
 
@@ -19,7 +19,7 @@ every (suc n) t = every n t && t n
 
 unfoldable pub tally : ℕ → (ℕ → Bool) → ℕ
 tally zero t = 0
-tally (suc n) t = tally n t + bit (t n)
+tally (suc n) t = tally n t + oneIf (t n)
 
 unfoldable pub among : ℕ → ℕ → List ℕ → Bool
 among x zero l = false

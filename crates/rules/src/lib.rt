@@ -7,14 +7,14 @@ ghost use Rattle.definition.specs.Pool.{slotCount, queueLength};
 ghost use Rattle.definition.specs.Words.{_=?_, _<?_};
 ghost use Rattle.slots.specs.View.{Whole, given, before};
 ghost use Rattle.refinement.specs.Mirror.{isPending};
-ghost use Rattle.refinement.specs.Rules.{isShelved, bit};
+ghost use Rattle.refinement.specs.Rules.{isShelved, oneIf};
 ghost use Rattle.rules.specs.Tests.{among, isTaken, slotFits, waiterFits, idsBelow, idsDistinct, slotsFit, countsRight, orderRight, blankFrom, queueRises};
 ghost use Rattle.rules.specs.Exact.{Exactly};
-use slots::Numbers;
-use slots::Head;
 use definition::MOST_NEXT_ID;
 use definition::QUEUE;
 use definition::SLOTS;
+use slots::Head;
+use slots::Numbers;
 use slots::States;
 use slots::Times;
 use slots::Waiters;
@@ -23,7 +23,7 @@ use words::both;
 // ── words ──
 
 fn one_if(b: bool) -> u32
-    ensures { λ r. ⌜ r ≡ bit b ⌝ }
+    ensures { λ r. ⌜ r ≡ oneIf b ⌝ }
 {
     if b {
         return 1;

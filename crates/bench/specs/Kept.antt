@@ -11,7 +11,8 @@ use Rattle.slots.specs.Call.{World, world, call}
 use Rattle.slots.specs.declared.Head.{Head}
 use Rattle.slots.specs.declared.Outcome.{Outcome}
 use Rattle.refinement.specs.Stands.{Formed}
-use Rattle.refinement.specs.Formed.{freshHead, overBlank, fresh-parts, fresh-formed, call-formed}
+use Rattle.refinement.specs.Alike.{freshHead}
+use Rattle.refinement.specs.Formed.{overBlank, fresh-parts, fresh-formed, call-formed}
 
 pub starts-formed : (o : Options) (h : Head) (b : Bool) → h ≡ freshHead o → b ≡ inRange o → not b ≡ false → Formed (overBlank h)
 starts-formed o h false e r t = absurd (true≢false t)

@@ -18,7 +18,7 @@ use slots::States;
 use slots::Times;
 use slots::Waiters;
 use tally::Tally;
-use text::Given;
+use reading::Given;
 
 const FRAME: usize = 24;
 
@@ -61,7 +61,7 @@ fn all(
                 t = tally::counted(t, o);
                 continue;
             }
-            let f = text::frame_of(&buf[from..at]);
+            let f = reading::frame_of(&buf[from..at]);
             let a = event::call(h, numbers, times, states, waiters, out, f);
             h = a.head;
             let o = a.outcome;
@@ -112,7 +112,7 @@ fn play(is_entry: bool, options: Options) {
 pub fn run(is_entry: bool) {
     let mut first = [0u8; FRAME];
     let n = io::read_full(STDIN_FILENO, &mut first);
-    match text::options_of(&first[..n]) {
+    match reading::options_of(&first[..n]) {
         Given::Options(o) => play(is_entry, o),
         Given::Malformed => say(b"no options\n"),
     }

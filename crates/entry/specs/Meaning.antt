@@ -35,10 +35,10 @@ use Rattle.refinement.specs.Alike.{freshSlots}
 use Rattle.refinement.specs.Formed.{fresh-stands, fresh-formed, call-formed, Lent, asCall, ran, wrote, writes, run-refines}
 use Rattle.event.specs.Laws.{call-short}
 use Rattle.rules.specs.Tests.{keepsRules}
-use Rattle.pool.specs.View.{idOf, viewOf, poolFrom}
+use Rattle.columns.specs.View.{idOf, viewOf, poolFrom}
 use Rattle.pool.specs.Making.{freshPool, noPool, notMade, making, makingFrom, countsOf}
 use Rattle.entry.specs.Entry.{Entered, entered, recordsIn, keeps, back, entry}
-use Rattle.pool.specs.Laws.{back-view, view-back}
+use Rattle.columns.specs.Laws.{back-view, view-back}
 use Rattle.entry.specs.Tested.{Typed, keeps-exact, entry-short, entry-kept}
 use Rattle.pool.specs.declared.Pool.{Pool}
 use Rattle.pool.specs.declared.Made.{Made}

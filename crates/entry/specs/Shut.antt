@@ -27,7 +27,7 @@ use Rattle.slots.specs.declared.Outcome.{Outcome}
 use Rattle.slots.specs.declared.Outcome.the-variants.{Refused, Accepted}
 use Rattle.refinement.specs.Stands.{Stands, Formed}
 use Rattle.refinement.specs.Formed.{fresh-stands, fresh-formed}
-use Rattle.pool.specs.View.{viewOf}
+use Rattle.columns.specs.View.{viewOf}
 use Rattle.pool.specs.Making.{freshPool}
 use Rattle.entry.specs.Entry.{Entered, entry}
 use Rattle.entry.specs.Tested.{Typed}

@@ -13,12 +13,12 @@ use pool::Slot;
 use slots::Outcome;
 use slots::Status;
 
-// A local pool, lent to `entry::event`.
+// A local pool, lent to `in_place::event`.
 fn once(start: Pool, frame: &[u8], out: &mut [u8]) -> Stepped
     ensures { λ r. ⌜ entered (r .pool) (now (out .exit)) (r .outcome) ≡ entry start (now (frame .entry)) (now (out .entry)) ⌝ }
 {
     let mut p = start;
-    let a = entry::event(&mut p, frame, out);
+    let a = in_place::event(&mut p, frame, out);
     Stepped {
         pool: p,
         outcome: a,
@@ -69,7 +69,7 @@ fn records(out: &[u8], n: usize) {
     if n <= ROOM / RECORD {
         if ROOM <= out.len() {
             let mut line = [0u8; ROOM_LINES];
-            text::print_records(out, n, &mut line);
+            printing::print_records(out, n, &mut line);
             let end = n * 33;
             say(&line[0..end]);
         }
@@ -80,7 +80,7 @@ fn show(o: Outcome, out: &[u8]) {
     match o {
         Outcome::Refused(r) => {
             say(b"refused ");
-            number(text::refusal_number(r) as u64);
+            number(printing::refusal_number(r) as u64);
         }
         Outcome::Accepted(n) => {
             records(out, n as usize);

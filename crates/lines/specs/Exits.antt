@@ -25,7 +25,7 @@ use Rattle.refinement.specs.Stands.{Formed}
 use Rattle.refinement.specs.Alike.{freshHead, freshSlots}
 use Rattle.refinement.specs.Formed.{overBlank, fresh-parts, fresh-formed, call-formed}
 use Rattle.refinement.specs.RecordRoom.{FewIn, call-few}
-use Rattle.text.specs.Printed.{printed, length-printed, length-lineOf}
+use Rattle.printing.specs.Printed.{printed, length-printed, length-lineOf}
 use Rattle.lines.specs.declared.Phase.{Phase}
 use Rattle.lines.specs.declared.Phase.the-variants.{First, Going, Ended}
 use Rattle.lines.specs.declared.Pace.{Pace}

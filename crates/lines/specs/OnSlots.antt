@@ -14,7 +14,7 @@ use Rattle.slots.specs.Call.{World, call}
 use Rattle.slots.specs.declared.Outcome.{Outcome}
 use Rattle.slots.specs.declared.Outcome.the-variants.{Refused, Accepted}
 use Rattle.refinement.specs.Alike.{freshSlots}
-use Rattle.text.specs.Printed.{printed}
+use Rattle.printing.specs.Printed.{printed}
 use Rattle.lines.specs.declared.Phase.{Phase}
 use Rattle.lines.specs.declared.Phase.the-variants.{First, Going, Ended}
 use Rattle.lines.specs.Machine.{Took, Machine, quiet}

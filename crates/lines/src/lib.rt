@@ -23,7 +23,7 @@ use slots::Outcome;
 use slots::States;
 use slots::Times;
 use slots::Waiters;
-use text::Given;
+use reading::Given;
 
 pub enum Phase {
     First,
@@ -62,7 +62,7 @@ fn bad_options(pace: Pace, refusal: Refusal, out: &mut [u8]) -> Pace
     requires { ⌜ logLineLength ≤ length (now out) ⌝ }
     ensures { λ r. ⌜ (r ≡ endedPace pace) × (now (out .exit) ≡ refusedLine refusal 1 ++ drop logLineLength (now (out .entry))) ⌝ }
 {
-    text::print_refusal(refusal, 1, out);
+    printing::print_refusal(refusal, 1, out);
     ended(pace)
 }
 
@@ -80,7 +80,7 @@ fn take_first(
     requires { ⌜ lineRoom ≤ length (now out) ⌝ }
     ensures { λ r. ⌜ Opens pace (before head numbers times states waiters) (optionsOfLine (now (line .entry))) (now (out .entry)) (now (out .exit)) (r .pace) (after (r .head) numbers times states waiters) (r .written) ⌝ }
 {
-    match text::line_options(line) {
+    match reading::line_options(line) {
         Given::Options(p) => {
             let options = pool::with_defaults(p);
             if pool::in_range(options) {
@@ -134,12 +134,12 @@ fn say(answer: Outcome, used: u64, scratch: &[u8], out: &mut [u8]) -> usize
 {
     match answer {
         Outcome::Refused(refusal) => {
-            text::print_refusal(refusal, line_number(used), out);
+            printing::print_refusal(refusal, line_number(used), out);
             LINE
         }
         Outcome::Accepted(count) => {
             let n = count as usize;
-            text::print_records(scratch, n, out);
+            printing::print_records(scratch, n, out);
             n * LINE
         }
     }
@@ -172,7 +172,7 @@ fn take_frame(
     requires { ⌜ (pace .used < pace .budget) × Formed (given head numbers times states waiters) × (enoughRoom ≤ length (now scratch)) × (lineRoom ≤ length (now out)) ⌝ }
     ensures { λ r. ⌜ Lined (answered (playOf pace (before head numbers times states waiters) (now (scratch .entry))) (call (before head numbers times states waiters) (now (scratch .entry)) (frameOfLine (now (line .entry))))) (now (out .entry)) (now (out .exit)) (playOf (r .pace) (after (r .head) numbers times states waiters) (now (scratch .exit))) (r .written) ⌝ }
 {
-    let frame = text::line_frame(line);
+    let frame = reading::line_frame(line);
     let a = event::call(head, numbers, times, states, waiters, scratch, frame);
     let h = a.head;
     let answer = a.outcome;

@@ -1,34 +1,18 @@
 -- One exit of the code after the other, over variables.
-use mathlib.Core.Path.{_≡_, refl, sym, ap, _∙_}
+use mathlib.Core.Path.{_≡_, sym, ap, _∙_}
 use mathlib.Core.Bool.{Bool, true, false}
 use mathlib.Core.Option.{Option}
-use Prim.Native.Nat.{ℕ, zero, suc}
 use Rattle.definition.specs.Words.{if_then_else_}
 use Rattle.definition.specs.Pool.{withDefaults, inRange}
 use Rattle.definition.specs.declared.Options.{Options}
-use Rattle.definition.specs.declared.ConnectionState.the-variants.{Vacant}
 use Rattle.definition.specs.declared.Refusal.the-variants.{Malformed, OptionsOutOfRange}
 use Rattle.slots.specs.declared.Outcome.the-variants.{Accepted}
-use Rattle.text.specs.Given.{optionsIn}
-use Rattle.text.specs.declared.Given.{Given}
-use Rattle.text.specs.declared.Given.the-variants as given
-use Rattle.pool.specs.View.{stateOf}
+use Rattle.reading.specs.Given.{optionsIn}
+use Rattle.reading.specs.declared.Given.{Given}
+use Rattle.reading.specs.declared.Given.the-variants as given
 use Rattle.pool.specs.Making.{freshPool, notMade, making, makingFrom}
 use Rattle.pool.specs.declared.Pool.{Pool}
 use Rattle.pool.specs.declared.Made.{Made}
-
--- a number of no state
-pub state-rest : (n : ℕ) → (n ≡ 0 → ⊥) → (n ≡ 1 → ⊥) → (n ≡ 2 → ⊥) → (n ≡ 3 → ⊥) → (n ≡ 4 → ⊥) → (n ≡ 5 → ⊥) → (n ≡ 6 → ⊥) → Vacant ≡ stateOf n
-state-rest zero a b c d e f g = absurd (a refl)
-state-rest (suc zero) a b c d e f g = absurd (b refl)
-state-rest (suc (suc zero)) a b c d e f g = absurd (c refl)
-state-rest (suc (suc (suc zero))) a b c d e f g = absurd (d refl)
-state-rest (suc (suc (suc (suc zero)))) a b c d e f g = absurd (e refl)
-state-rest (suc (suc (suc (suc (suc zero))))) a b c d e f g = absurd (f refl)
-state-rest (suc (suc (suc (suc (suc (suc zero)))))) a b c d e f g = absurd (g refl)
-state-rest (suc (suc (suc (suc (suc (suc (suc n))))))) a b c d e f g = refl
-
--- ── Making ──
 
 module _ (o o' : Options) (b : Bool) (e : o' ≡ withDefaults o) (i : b ≡ inRange o') where
   pub making-done : (p : Pool) → b ≡ true → p ≡ freshPool o' → _≡_ {A = Made} (record { outcome = Accepted 0; pool = p }) (making o)

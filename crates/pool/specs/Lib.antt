@@ -1,3 +1,1 @@
-pub mod View
-pub mod Laws
 pub mod Making

@@ -1,28 +1,21 @@
-// The pool as a value: its type, its making, its counts, and the columns that the engine works on.
+// The pool as a value: its type, its making and its counts.
 ghost use mathlib.Core.Path.{_≡_};
 ghost use Prim.Native.Nat.{_-_};
-ghost use Rattle.definition.specs.Pool.{stateNo, orDefault, withDefaults, inRange};
+ghost use Rattle.definition.specs.Pool.{orDefault, withDefaults, inRange};
 ghost use Rattle.definition.specs.Bytes.{optionsOf};
 ghost use Rattle.refinement.specs.Alike.{freshHead};
-ghost use Rattle.pool.specs.View.{stateOf, slotOf};
-ghost use Rattle.pool.specs.Laws.{Apart, Again};
 ghost use Rattle.pool.specs.Making.{freshPool, notMade, making, makingFrom, countsOf};
 use definition::ConnectionState;
 use definition::Options;
-use definition::PinnedState;
 use definition::PoolState;
-use definition::Purpose;
-use definition::Refusal;
-use slots::Numbers;
-use slots::Head;
-use slots::Status;
-use slots::Outcome;
 use definition::QUEUE;
+use definition::Refusal;
 use definition::SLOTS;
-use slots::States;
-use slots::Times;
+use reading::Given;
+use slots::Head;
+use slots::Outcome;
+use slots::Status;
 use slots::Waiters;
-use text::Given;
 use words::both;
 
 pub struct Slot {
@@ -50,107 +43,6 @@ pub struct Counts {
     pub lent: usize,
     pub pending: usize,
     pub waiting: usize,
-}
-
-// ── slots and columns ──
-
-pub struct Parts {
-    pub numbers: Numbers,
-    pub times: Times,
-    pub states: States,
-}
-
-pub struct Table {
-    pub slots: [Slot; SLOTS],
-    pub available: [u8; SLOTS],
-}
-
-pub fn code_of(state: ConnectionState) -> u8
-    ensures { λ r. ⌜ r ≡ stateNo state ⌝ }
-{
-    match state {
-        ConnectionState::Vacant => 0,
-        ConnectionState::CheckedIn => 1,
-        ConnectionState::CheckedOut => 2,
-        ConnectionState::Pinned(p) => match p {
-            PinnedState::InUse => 3,
-            PinnedState::Returned => 4,
-        },
-        ConnectionState::Pending(p) => match p {
-            Purpose::Request => 5,
-            Purpose::Background => 6,
-        },
-    }
-}
-
-pub fn state_of(code: u8) -> ConnectionState
-    ensures { λ r. ⌜ r ≡ stateOf code ⌝ }
-{
-    match code {
-        0 => ConnectionState::Vacant,
-        1 => ConnectionState::CheckedIn,
-        2 => ConnectionState::CheckedOut,
-        3 => ConnectionState::Pinned(PinnedState::InUse),
-        4 => ConnectionState::Pinned(PinnedState::Returned),
-        5 => ConnectionState::Pending(Purpose::Request),
-        6 => ConnectionState::Pending(Purpose::Background),
-        7..=255 => ConnectionState::Vacant,
-    }
-}
-
-fn slot_of(id: u32, generation: u32, time: u64, code: u8) -> Slot
-    ensures { λ r. ⌜ r ≡ slotOf id generation time code ⌝ }
-{
-    let s = state_of(code);
-    Slot {
-        id: id,
-        generation: generation,
-        time: time,
-        state: s,
-    }
-}
-
-pub fn columns(slots: [Slot; SLOTS], available: [u8; SLOTS]) -> Parts
-    ensures { λ r. ⌜ Apart slots available r ⌝ }
-{
-    let mut numbers: Numbers = [0; 2 * SLOTS];
-    let mut times: Times = [0; SLOTS];
-    let mut states: States = [0; 2 * SLOTS];
-    let mut i: usize = 0;
-    while i < SLOTS {
-        let s = slots[i];
-        let k = s.state;
-        numbers[i] = s.id;
-        numbers[SLOTS + i] = s.generation;
-        times[i] = s.time;
-        states[i] = code_of(k);
-        states[SLOTS + i] = available[i];
-        i += 1;
-    }
-    Parts {
-        numbers: numbers,
-        times: times,
-        states: states,
-    }
-}
-
-pub fn rows(numbers: Numbers, times: Times, states: States) -> Table
-    ensures { λ r. ⌜ Again numbers times states r ⌝ }
-{
-    let vacant = slot_of(0, 0, 0, 0);
-    let mut slots: [Slot; SLOTS] = [vacant; SLOTS];
-    let mut available: [u8; SLOTS] = [0; SLOTS];
-    let mut i: usize = 0;
-    while i < SLOTS {
-        let s = slot_of(numbers[i], numbers[SLOTS + i], times[i], states[i]);
-        slots[i] = s;
-        available[i] = states[SLOTS + i];
-        i += 1;
-    }
-    Table {
-        slots: slots,
-        available: available,
-    }
 }
 
 // ── making a pool ──
@@ -214,7 +106,12 @@ fn fresh(o: Options) -> Pool
     ensures { λ r. ⌜ r ≡ freshPool o ⌝ }
 {
     let h = fresh_head(o);
-    let vacant = slot_of(0, 0, 0, 0);
+    let vacant = Slot {
+        id: 0,
+        generation: 0,
+        time: 0,
+        state: ConnectionState::Vacant,
+    };
     let slots: [Slot; SLOTS] = [vacant; SLOTS];
     Pool {
         head: h,
@@ -271,7 +168,7 @@ impl Pool {
     pub fn from_bytes(options: &[u8]) -> Made
         ensures { λ r. ⌜ r ≡ makingFrom (optionsOf (now (options .entry))) ⌝ }
     {
-        match text::options_of(options) {
+        match reading::options_of(options) {
             Given::Options(o) => Pool::new(o),
             Given::Malformed => not_made(Refusal::Malformed),
         }

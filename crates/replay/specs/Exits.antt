@@ -7,7 +7,7 @@ use native.Mathlib.Omega.{arith}
 use borrow.Author.Tests.{eq-eqb, ne-eqb, le-leb, lt-leb}
 use lib.ListN.{length, take, drop, length-append, length-drop}
 use Rattle.definition.specs.Words.{if_then_else_, _=?_, _≤?_}
-use Rattle.text.specs.Printed.{tail-more}
+use Rattle.big_endian.specs.Laws.{tail-more}
 use Rattle.lines.specs.Machine.{Took, lineRoom}
 use Rattle.lines.specs.OnSlots.{Play, onSlots}
 use Rattle.pieces.specs.Feed.{View, Fed, goOn, finish}

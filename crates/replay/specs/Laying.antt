@@ -12,7 +12,7 @@ use Rattle.definition.specs.Bytes.{serialOf, recordBytes}
 use Rattle.definition.specs.Day.{Entry, Said, entryBytes, numbered, textOf}
 use Rattle.slots.specs.Laid.{laid}
 use Rattle.slots.specs.Done.{lay}
-use Rattle.text.specs.Printed.{printed, entriesBytes, printed-entries}
+use Rattle.printing.specs.Printed.{printed, entriesBytes, printed-entries}
 
 pub length-numbered : (w : ℕ) (rs : List Record) → length (numbered w rs) ≡ length rs
 unfolding numbered

@@ -10,7 +10,7 @@ use lib.Seq.{drop-drop}
 use Rattle.definition.specs.Words.{_≤?_, _=?_}
 use Rattle.definition.specs.Bytes.{newline}
 use Rattle.slots.specs.View.{SlotPool}
-use Rattle.text.specs.Printed.{tail-more}
+use Rattle.big_endian.specs.Laws.{tail-more}
 use Rattle.lines.specs.Machine.{lineRoom}
 use Rattle.lines.specs.OnSlots.{Play, lineSlots, onSlots}
 use Rattle.lines.specs.Code.{playOf, Able, Lined}

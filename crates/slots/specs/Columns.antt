@@ -1,10 +1,10 @@
 -- Columns of slotCount cells each, one behind the other in one array; and columns read side by side.
 use mathlib.Core.Path.{_≡_, refl, ap, sym, _∙_}
-use mathlib.Core.List.{List, [], _∷_, _++_}
+use mathlib.Core.List.{List, [], _∷_, _++_, map}
 use Prim.Native.Nat.{ℕ, zero, suc, _+_, _*_, _-_, _≤_, _<_}
 use native.Mathlib.Omega.{arith}
-use lib.ListN.{length, getD, set, take, drop, length-drop, length-take, replicate}
-use lib.Seq.{getD-take, getD-drop, take-set-le, take-set-lt, drop-set-lt, drop-set-add}
+use lib.ListN.{length, getD, set, take, drop, length-drop, length-take, replicate, take-append-drop}
+use lib.Seq.{getD-take, getD-drop, take-set-le, take-set-lt, drop-set-lt, drop-set-add, take-at, drop-at, take-all, drop-drop}
 use Rattle.definition.specs.Pool.{slotCount}
 
 -- ── Columns in one array ───────────────────────────────────────────────────────────────────────────────────────────────
@@ -68,6 +68,30 @@ pub column-blank : (k m : ℕ) → offset k + slotCount ≤ m → column k (repl
 unfolding column
 column-blank k m h = part-blank (offset k) slotCount m 0 h
 
+-- columns that were joined: the first, those behind it, and one alone
+module _ (a b : List ℕ) (long : length a ≡ slotCount) where
+  pub column-first : column 0 (a ++ b) ≡ a
+  unfolding column
+  column-first = take-at a b slotCount long
+
+  pub column-later : (k : ℕ) → column (suc k) (a ++ b) ≡ column k b
+  unfolding column
+  column-later k =
+      let e : offset (suc k) ≡ slotCount + offset k = omega arith in
+      ap (λ (n : ℕ). take slotCount (drop n (a ++ b))) e
+      ∙ ap (take slotCount) (sym (drop-drop (offset k) slotCount (a ++ b)) ∙ ap (drop (offset k)) (drop-at a b slotCount long))
+
+pub column-only : (b : List ℕ) → length b ≡ slotCount → column 0 b ≡ b
+unfolding column
+column-only b e = take-all slotCount b (omega arith)
+
+-- and an array of two is its columns joined
+pub two-columns : (l : List ℕ) → length l ≡ 2 * slotCount → l ≡ column 0 l ++ column 1 l
+unfolding column
+two-columns l e =
+    sym (take-append-drop slotCount l)
+    ∙ ap (λ (r : List ℕ). take slotCount l ++ r) (sym (take-all slotCount (drop slotCount l) (simp length-drop (omega arith))))
+
 -- ── Columns side by side ───────────────────────────────────────────────────────────────────────────────────────────────
 
 module _ {A B C : Type 0} (f : A → B → C) where
@@ -118,3 +142,9 @@ module _ {A B C : Type 0} (f : A → B → C) where
   unfolding zip
   zip-replicate zero a b = refl
   zip-replicate (suc n) a b = ap (λ (r : List C). f a b ∷ r) (zip-replicate n a b)
+
+-- columns that one list gives
+pub zip-map : {A B C D : Type 0} (f : A → B → C) (g : D → A) (h : D → B) (l : List D) → zip f (map g l) (map h l) ≡ map (λ x. f (g x) (h x)) l
+unfolding zip
+zip-map f g h [] = refl
+zip-map {C = C} f g h (x ∷ l) = ap (λ (r : List C). f (g x) (h x) ∷ r) (zip-map f g h l)

@@ -1,11 +1,11 @@
 -- What a change of the lent parts is to the pool that they make.
 use mathlib.Core.Path.{_≡_, refl, sym, ap, _∙_}
-use mathlib.Core.List.{List}
+use mathlib.Core.List.{List, map}
 use Prim.Native.Nat.{ℕ, _+_, _≤_, _<_}
 use native.Mathlib.Omega.{arith}
 use lib.ListN.{length, getD, set, replicate}
 use Rattle.definition.specs.Pool.{slotCount}
-use Rattle.slots.specs.Columns.{offset, column, column-at, long-column, column-set, column-before, column-behind, column-blank, zip, zip-set, zip-set-second, zip-at, zip-fits, zip-replicate}
+use Rattle.slots.specs.Columns.{offset, column, column-at, column-long, long-column, column-set, column-before, column-behind, column-blank, zip, zip-set, zip-set-second, zip-at, zip-long, zip-fits, zip-map, zip-replicate}
 use Rattle.slots.specs.Order.{vacantSlot}
 use Rattle.slots.specs.View.{SlotPool, Slot, slot, vacant, withState, withTable, withAvailable, idAt, slotAt, idsIn, generationsIn, statesIn, orderIn, slotsOf, poolOf, Whole}
 use Rattle.slots.specs.declared.Head.{Head}
@@ -27,6 +27,18 @@ slots-put ns ns' ts ss ss' i g t s e f =
 slots-same : (ns ts ss ss' : List ℕ) → statesIn ss' ≡ statesIn ss → slotsOf ns ts ss' ≡ slotsOf ns ts ss
 unfolding slotsOf
 slots-same ns ts ss ss' e = ap (zip applied (zip slot (generationsIn ns) ts)) e
+
+-- as many as the columns are long
+pub slots-long : (ns ts ss : List ℕ) → slotCount + slotCount ≤ length ns → length ts ≡ slotCount → slotCount ≤ length ss → length (slotsOf ns ts ss) ≡ slotCount
+unfolding slotsOf
+slots-long ns ts ss a b c =
+    zip-long applied (zip slot (generationsIn ns) ts) (statesIn ss) slotCount
+    (zip-long slot (generationsIn ns) ts slotCount (column-long 1 ns a) b) (column-long 0 ss (omega arith))
+
+-- columns that one list gives
+pub slots-map : {A : Type 0} (g t s : A → ℕ) (l : List A) (ns ss : List ℕ) → generationsIn ns ≡ map g l → statesIn ss ≡ map s l → slotsOf ns (map t l) ss ≡ map (λ x. slot (g x) (t x) (s x)) l
+unfolding slotsOf
+slots-map g t s l ns ss e f = rw (e, f, zip-map slot g t l) (zip-map applied (λ x. slot (g x) (t x)) s l)
 
 -- a slot is what the columns hold at its place
 module _ (ns ts ss : List ℕ) (w : length (slotsOf ns ts ss) ≡ slotCount) where

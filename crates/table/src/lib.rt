@@ -9,9 +9,9 @@ ghost use Rattle.definition.specs.Bytes.{serialOf, recordBytes};
 ghost use Rattle.slots.specs.Order.{placeOf, slotHolding, vacantSlot, shifted};
 ghost use Rattle.slots.specs.View.{idsIn, statesIn, orderIn};
 ghost use Rattle.slots.specs.Laid.{laid};
-use slots::Numbers;
 use slots::ORDER;
 use definition::SLOTS;
+use slots::Numbers;
 use slots::States;
 use slots::Waiters;
 
@@ -93,22 +93,13 @@ pub fn put_record(o: &mut [u8], kind: u8, reason: u8, serial: u32, id: u64, othe
     requires { ⌜ 16 ≤ length (now o) ⌝ }
     ensures { λ _. ⌜ now (o .exit) ≡ recordBytes serial (fields kind reason id other) ++ drop 16 (now (o .entry)) ⌝ }
 {
+    big_endian::put_u32(&mut o[4..], serial);
+    big_endian::put_u32(&mut o[8..], (id % 4294967296) as u32);
+    big_endian::put_u32(&mut o[12..], other);
     o[0] = kind;
     o[1] = reason;
     o[2] = 0;
     o[3] = 0;
-    o[4] = (serial / 16777216 % 256) as u8;
-    o[5] = (serial / 65536 % 256) as u8;
-    o[6] = (serial / 256 % 256) as u8;
-    o[7] = (serial % 256) as u8;
-    o[8] = (id / 16777216 % 256) as u8;
-    o[9] = (id / 65536 % 256) as u8;
-    o[10] = (id / 256 % 256) as u8;
-    o[11] = (id % 256) as u8;
-    o[12] = (other / 16777216 % 256) as u8;
-    o[13] = (other / 65536 % 256) as u8;
-    o[14] = (other / 256 % 256) as u8;
-    o[15] = (other % 256) as u8;
 }
 
 // Record n of an event whose first record has the serial given: written after those already laid down.

@@ -15,7 +15,7 @@ use Rattle.event.proofs.call.Reads as call-reads
 use Rattle.io.proofs.read_full.Reads as read-full-reads
 use Rattle.tally.proofs.counted.Reads as counted-reads
 use Rattle.tally.proofs.none.Reads as none-reads
-use Rattle.text.proofs.frame_of.Reads as frame-of-reads
+use Rattle.reading.proofs.frame_of.Reads as frame-of-reads
 
 abbrev Inv-loop2 : tie.InvT-loop2
 Inv-loop2 is-entry numbers₀ times₀ states₀ waiters₀ buf out₀ p₀ h₀ t₀ turns n at₀ numbers times states waiters out p h t at =

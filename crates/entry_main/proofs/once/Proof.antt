@@ -51,10 +51,10 @@ use Rattle.slots.proofs.Outcome as N
 use Rattle.slots.proofs.Outcome.Laws as N′
 use Rattle.entry.proofs.Stepped as S
 use Rattle.entry.proofs.Stepped.Laws as S′
-use Rattle.entry.proofs.event as event
-use Rattle.entry.proofs.event.Symbol as event-def
-use Rattle.entry.proofs.event.Symbol.{name as #event}
-use Rattle.entry.proofs.event.Met as event-thm
+use Rattle.in_place.proofs.event as event
+use Rattle.in_place.proofs.event.Symbol as event-def
+use Rattle.in_place.proofs.event.Symbol.{name as #event}
+use Rattle.in_place.proofs.event.Met as event-thm
 use Rattle.entry_main.proofs.once.Key.{name as #once}
 use Rattle.entry_main.proofs.once as once
 use Rattle.entry_main.proofs.once.Statement as stated
@@ -213,4 +213,4 @@ once-spec 𝓤 H 𝓜 𝓖 𝓡 =
     entered 𝓤 H (tripleOf 𝓤 H (𝓖 .A) once.signature (once.spec 𝓤 H (𝓖 .A) (𝓜 .mem) (𝓡 .run)))
     (tables 𝓤 H 𝓜 𝓡 code.env .C) (tables 𝓤 H 𝓜 𝓡 code.env .Λ) #once code.function (code.unfolded 𝓤 H 𝓜 𝓡)
     (once-meets 𝓤 H (𝓖 .A) (givenOf 𝓤 H 𝓜 𝓖) (𝓜 .mem) (𝓡 .run) (tablesOf 𝓤 H 𝓜 (tables 𝓤 H 𝓜 𝓡 code.env))
-    (cited 𝓤 H (Event 𝓤 H (𝓖 .A) (𝓜 .mem) (𝓡 .run)) 𝓜 𝓡 code.env #event event-def.routine code.calls-entry·event (event-thm.met 𝓤 H 𝓜 𝓖 𝓡)))
+    (cited 𝓤 H (Event 𝓤 H (𝓖 .A) (𝓜 .mem) (𝓡 .run)) 𝓜 𝓡 code.env #event event-def.routine code.calls-in_place·event (event-thm.met 𝓤 H 𝓜 𝓖 𝓡)))

@@ -9,8 +9,8 @@ use Rattle.lines.proofs.say.Tie as tie
 use Rattle.lines.proofs.say.Reads as reads
 use Rattle.lines.proofs.say.Lts as lts
 use Rattle.lines.proofs.line_number.Reads as line-number-reads
-use Rattle.text.proofs.print_records.Reads as print-records-reads
-use Rattle.text.proofs.print_refusal.Reads as print-refusal-reads
+use Rattle.printing.proofs.print_records.Reads as print-records-reads
+use Rattle.printing.proofs.print_refusal.Reads as print-refusal-reads
 
 enum-known-answer : tie.Need-enum-known-answer
 enum-known-answer c = search needs

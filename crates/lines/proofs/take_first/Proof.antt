@@ -8,7 +8,7 @@ use Rattle.slots.specs.View.{SlotPool, given}
 use Rattle.slots.specs.declared.Head.{Head}
 use Rattle.refinement.specs.Alike.{freshHead}
 use Rattle.refinement.specs.Formed.{overBlank}
-use Rattle.text.specs.Given.{optionsIn}
+use Rattle.reading.specs.Given.{optionsIn}
 use Rattle.lines.specs.Code.{goingPace, Opens}
 use Rattle.lines.specs.Exits.{options-malformed, options-out, options-made, opens-bad, opens-made}
 use borrow.Author.Needs.{needs}
@@ -20,7 +20,7 @@ use Rattle.lines.proofs.bad_options.Reads as bad-options-reads
 use Rattle.pool.proofs.fresh_head.Reads as fresh-head-reads
 use Rattle.pool.proofs.in_range.Reads as in-range-reads
 use Rattle.pool.proofs.with_defaults.Reads as with-defaults-reads
-use Rattle.text.proofs.line_options.Reads as line-options-reads
+use Rattle.reading.proofs.line_options.Reads as line-options-reads
 
 abbrev start : tie.After-in-range → tie.Start
 start c = c .before .before .before .before .before .before .before .before

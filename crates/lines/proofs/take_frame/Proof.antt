@@ -12,7 +12,7 @@ use Rattle.lines.proofs.take_frame.Lts as lts
 use Rattle.event.proofs.call.Reads as call-reads
 use Rattle.lines.proofs.counted.Reads as counted-reads
 use Rattle.lines.proofs.say.Reads as say-reads
-use Rattle.text.proofs.line_frame.Reads as line-frame-reads
+use Rattle.reading.proofs.line_frame.Reads as line-frame-reads
 
 abbrev start : tie.After-call → tie.Start
 start d = d .before .before .before .before .before .before .before .before .before .before

@@ -5,11 +5,8 @@ use Rattle.pool.proofs.fresh.Tie as tie
 fresh-head-requires : tie.Need-fresh-head-requires
 fresh-head-requires c κs = search needs
 
-slot-of-requires : tie.Need-slot-of-requires
-slot-of-requires c κs = search needs
-
 returns : tie.Need-returns
-returns c = rw (c .slot-of .ensures, c .before .fresh-head .ensures)
+returns c = rw (c .fresh-head .ensures)
 
 pub fresh-spec : {M : Type 1} → statement M
-fresh-spec = tie.close (tie.spec fresh-head-requires slot-of-requires returns)
+fresh-spec = tie.close (tie.spec fresh-head-requires returns)

@@ -1,12 +1,49 @@
 use native.Mathlib.Omega.{arith}
 use lib.ListN.{length-set}
-use lib.Seq.{sets-eq}
 use denote.Ref.{now}
-use Rattle.definition.specs.Records.{fields}
-use Rattle.definition.specs.Bytes.{recordBytes}
+use Rattle.table.proofs.Laws.{record-laid}
 use borrow.Author.Needs.{needs}
 use Rattle.table.proofs.put_record.Statement.{statement}
 use Rattle.table.proofs.put_record.Tie as tie
+
+sub-put-u32 : tie.Need-sub-put-u32
+sub-put-u32 c = search needs
+
+part-put-u32-start : tie.Need-part-put-u32-start
+part-put-u32-start c = search needs
+
+part-put-u32-end : tie.Need-part-put-u32-end
+part-put-u32-end c = search needs
+
+put-u32-requires : tie.Need-put-u32-requires
+put-u32-requires c κs = search needs
+
+sub-put-u32-2 : tie.Need-sub-put-u32-2
+sub-put-u32-2 c = search needs
+
+part-put-u32-start-2 : tie.Need-part-put-u32-start-2
+part-put-u32-start-2 c = search needs
+
+part-put-u32-end-2 : tie.Need-part-put-u32-end-2
+part-put-u32-end-2 c = search needs
+
+cast-put-u32 : tie.Need-cast-put-u32
+cast-put-u32 c = search needs
+
+put-u32-requires-2 : tie.Need-put-u32-requires-2
+put-u32-requires-2 c κs = search needs
+
+sub-put-u32-3 : tie.Need-sub-put-u32-3
+sub-put-u32-3 c = search needs
+
+part-put-u32-start-3 : tie.Need-part-put-u32-start-3
+part-put-u32-start-3 c = search needs
+
+part-put-u32-end-3 : tie.Need-part-put-u32-end-3
+part-put-u32-end-3 c = search needs
+
+put-u32-requires-3 : tie.Need-put-u32-requires-3
+put-u32-requires-3 c κs = search needs
 
 slice-write-o : tie.Need-slice-write-o
 slice-write-o c = search needs
@@ -20,121 +57,42 @@ slice-write-o-3 c = simp length-set (omega arith)
 slice-write-o-4 : tie.Need-slice-write-o-4
 slice-write-o-4 c = simp length-set (omega arith)
 
-cast-o : tie.Need-cast-o
-cast-o c = search needs
-
-slice-write-o-5 : tie.Need-slice-write-o-5
-slice-write-o-5 c = simp length-set (omega arith)
-
-cast-o-2 : tie.Need-cast-o-2
-cast-o-2 c = search needs
-
-slice-write-o-6 : tie.Need-slice-write-o-6
-slice-write-o-6 c = simp length-set (omega arith)
-
-cast-o-3 : tie.Need-cast-o-3
-cast-o-3 c = search needs
-
-slice-write-o-7 : tie.Need-slice-write-o-7
-slice-write-o-7 c = simp length-set (omega arith)
-
-cast-o-4 : tie.Need-cast-o-4
-cast-o-4 c = search needs
-
-slice-write-o-8 : tie.Need-slice-write-o-8
-slice-write-o-8 c = simp length-set (omega arith)
-
-cast-o-5 : tie.Need-cast-o-5
-cast-o-5 c = search needs
-
-slice-write-o-9 : tie.Need-slice-write-o-9
-slice-write-o-9 c = simp length-set (omega arith)
-
-cast-o-6 : tie.Need-cast-o-6
-cast-o-6 c = search needs
-
-slice-write-o-10 : tie.Need-slice-write-o-10
-slice-write-o-10 c = simp length-set (omega arith)
-
-cast-o-7 : tie.Need-cast-o-7
-cast-o-7 c = search needs
-
-slice-write-o-11 : tie.Need-slice-write-o-11
-slice-write-o-11 c = simp length-set (omega arith)
-
-cast-o-8 : tie.Need-cast-o-8
-cast-o-8 c = search needs
-
-slice-write-o-12 : tie.Need-slice-write-o-12
-slice-write-o-12 c = simp length-set (omega arith)
-
-cast-o-9 : tie.Need-cast-o-9
-cast-o-9 c = search needs
-
-slice-write-o-13 : tie.Need-slice-write-o-13
-slice-write-o-13 c = simp length-set (omega arith)
-
-cast-o-10 : tie.Need-cast-o-10
-cast-o-10 c = search needs
-
-slice-write-o-14 : tie.Need-slice-write-o-14
-slice-write-o-14 c = simp length-set (omega arith)
-
-cast-o-11 : tie.Need-cast-o-11
-cast-o-11 c = search needs
-
-slice-write-o-15 : tie.Need-slice-write-o-15
-slice-write-o-15 c = simp length-set (omega arith)
-
-cast-o-12 : tie.Need-cast-o-12
-cast-o-12 c = search needs
-
-slice-write-o-16 : tie.Need-slice-write-o-16
-slice-write-o-16 c = simp length-set (omega arith)
-
 same-length : tie.Need-same-length
-same-length c = simp length-set
+same-length c = simp length-set (search needs)
 
 returns : tie.Need-returns
-unfolding recordBytes
 returns c =
-    sets-eq
-    (recordBytes (c .args .serial) (fields (c .args .kind) (c .args .reason) (c .args .id) (c .args .other)))
-    (now (c .args .o))
-    0
-    (c .pre)
+    let c₃ = c .before .before in
+    let c₂ = c₃ .before .before .before .before in
+    let c₁ = c₂ .before .before .before .before in
+    let p = c₁ .before .before .before in
+    let a = p .args in
+    let w₃ = c₃ .put-u323 in
+    let w₂ = c₂ .put-u322 in
+    let w₁ = c₁ .put-u32 in
+    record-laid (a .kind) (a .reason) (a .serial) (a .id) (a .other) (now (a .o)) (w₁ .last .0) (w₂ .last .0) (w₃ .last .0)
+    (p .pre) (w₁ .ensures) (w₂ .ensures) (w₃ .ensures)
 
 pub put-record-spec : {M : Type 1} → statement M
 put-record-spec =
     tie.close
     (tie.spec
+    sub-put-u32
+    part-put-u32-start
+    part-put-u32-end
+    put-u32-requires
+    sub-put-u32-2
+    part-put-u32-start-2
+    part-put-u32-end-2
+    cast-put-u32
+    put-u32-requires-2
+    sub-put-u32-3
+    part-put-u32-start-3
+    part-put-u32-end-3
+    put-u32-requires-3
     slice-write-o
     slice-write-o-2
     slice-write-o-3
     slice-write-o-4
-    cast-o
-    slice-write-o-5
-    cast-o-2
-    slice-write-o-6
-    cast-o-3
-    slice-write-o-7
-    cast-o-4
-    slice-write-o-8
-    cast-o-5
-    slice-write-o-9
-    cast-o-6
-    slice-write-o-10
-    cast-o-7
-    slice-write-o-11
-    cast-o-8
-    slice-write-o-12
-    cast-o-9
-    slice-write-o-13
-    cast-o-10
-    slice-write-o-14
-    cast-o-11
-    slice-write-o-15
-    cast-o-12
-    slice-write-o-16
     same-length
     returns)

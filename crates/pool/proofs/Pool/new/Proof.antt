@@ -13,13 +13,21 @@ fresh-requires : tie.Need-fresh-requires
 fresh-requires c κs = search needs
 
 returns : tie.Need-returns
-returns c = making-done (c .before .before .before .before .args .options) _ _ (c .before .before .before .with-defaults .ensures) (c .before .before .in-range .ensures) _ (c .before .if1 .taken) (c .fresh .ensures)
+returns c =
+    let d = c .before .before .before .with-defaults in
+    let r = c .before .before .in-range in
+    making-done (c .before .before .before .before .args .options) (d .result) (r .result) (d .ensures) (r .ensures)
+    (c .fresh .result) (c .before .if1 .taken) (c .fresh .ensures)
 
 not-made-requires : tie.Need-not-made-requires
 not-made-requires c κs = search needs
 
 returns-2 : tie.Need-returns-2
-returns-2 c = making-refused (c .before .before .before .before .args .options) _ _ (c .before .before .before .with-defaults .ensures) (c .before .before .in-range .ensures) _ (c .before .if1 .left) (c .not-made .ensures)
+returns-2 c =
+    let d = c .before .before .before .with-defaults in
+    let r = c .before .before .in-range in
+    making-refused (c .before .before .before .before .args .options) (d .result) (r .result) (d .ensures) (r .ensures)
+    (c .not-made .result) (c .before .if1 .left) (c .not-made .ensures)
 
 pub new-spec : {M : Type 1} → statement M
 new-spec =

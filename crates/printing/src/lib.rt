@@ -1,0 +1,98 @@
+// Records and refusals printed as lines, each function equal to the definition's.
+ghost use mathlib.Core.Path.{_≡_};
+ghost use mathlib.Core.List.{_++_};
+ghost use Prim.Native.Nat.{_*_, _≤_, _<_};
+ghost use lib.ListN.{length, drop};
+ghost use Rattle.definition.specs.Records.{fields};
+ghost use Rattle.definition.specs.Refusals.{refusalNo};
+ghost use Rattle.definition.specs.Bytes.{digitOf, hexOf, recordBytes, lineOf};
+ghost use Rattle.printing.specs.Printed.{printed};
+use definition::Refusal;
+
+// ── Lines printed ──
+
+// The digit of a number below 16.
+fn digit_of(n: u8) -> u8
+    requires { ⌜ n < 16 ⌝ }
+    ensures { λ r. ⌜ r ≡ digitOf n ⌝ }
+{
+    if n < 10 { 48 + n } else { 87 + n }
+}
+
+// The digits of s at the front of o. By the length and not by 16: the compiler then takes 16 bytes at once.
+fn encode(s: &[u8], o: &mut [u8])
+    requires { ⌜ 2 * length (now s) ≤ length (now o) ⌝ }
+    ensures { λ _. ⌜ now (o .exit) ≡ hexOf (now (s .entry)) ++ drop (2 * length (now (s .entry))) (now (o .entry)) ⌝ }
+{
+    let mut i: usize = 0;
+    while i < s.len() {
+        let v = s[i];
+        o[i * 2] = digit_of(v / 16);
+        o[i * 2 + 1] = digit_of(v % 16);
+        i += 1;
+    }
+}
+
+// A record of 16 bytes as a line at the front of o.
+pub fn print_record(s: &[u8], o: &mut [u8])
+    requires { ⌜ (length (now s) ≡ 16) × (33 ≤ length (now o)) ⌝ }
+    ensures { λ _. ⌜ now (o .exit) ≡ lineOf (now (s .entry)) ++ drop 33 (now (o .entry)) ⌝ }
+{
+    encode(s, o);
+    o[32] = 10;
+}
+
+// The first n records of s as lines at the front of o.
+pub fn print_records(s: &[u8], n: usize, o: &mut [u8])
+    requires { ⌜ (16 * n ≤ length (now s)) × (33 * n ≤ length (now o)) ⌝ }
+    ensures { λ _. ⌜ now (o .exit) ≡ printed n (now (s .entry)) ++ drop (33 * n) (now (o .entry)) ⌝ }
+{
+    let mut i: usize = 0;
+    while i < n {
+        let from = i * 16;
+        let to = from + 16;
+        let at = i * 33;
+        print_record(&s[from..to], &mut o[at..]);
+        i += 1;
+    }
+}
+
+// ── A refusal ──
+
+pub fn refusal_number(r: Refusal) -> u8
+    ensures { λ n. ⌜ n ≡ refusalNo r ⌝ }
+{
+    match r {
+        Refusal::OutputShort => 1,
+        Refusal::Malformed => 2,
+        Refusal::ClockBack => 3,
+        Refusal::AfterClose => 4,
+        Refusal::NumbersSpent => 5,
+        Refusal::OldRequest => 6,
+        Refusal::QueueFull => 7,
+        Refusal::WrongState => 8,
+        Refusal::WrongTime => 9,
+        Refusal::OptionsOutOfRange => 10,
+        Refusal::NotWaiting => 11,
+        Refusal::AlreadyPinned => 12,
+    }
+}
+
+fn refusal_record(number: u8, line: u32) -> [u8; 16]
+    ensures { λ r. ⌜ r ≡ recordBytes 0 (fields 32 number line 0) ⌝ }
+{
+    let mut b: [u8; 16] = [0; 16];
+    b[0] = 32;
+    b[1] = number;
+    big_endian::put_u32(&mut b[8..], line);
+    b
+}
+
+// The log's line for a refused one, at the front of o.
+pub fn print_refusal(r: Refusal, line: u32, o: &mut [u8])
+    requires { ⌜ 33 ≤ length (now o) ⌝ }
+    ensures { λ _. ⌜ now (o .exit) ≡ lineOf (recordBytes 0 (fields 32 (refusalNo r) line 0)) ++ drop 33 (now (o .entry)) ⌝ }
+{
+    let b = refusal_record(refusal_number(r), line);
+    print_record(&b, o);
+}

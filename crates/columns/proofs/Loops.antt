@@ -9,7 +9,7 @@ use lib.Seq.{take-suc, take-suc-set, take-all}
 use Rattle.definition.specs.Pool.{slotCount, stateNo, stateOfNo}
 use Rattle.definition.specs.declared.ConnectionState.the-variants.{Vacant}
 use Rattle.slots.specs.View as Of
-use Rattle.slots.specs.Columns.{offset, column, column-at, column-long, column-set, column-before, column-behind, two-columns, zip-at, zip-long}
+use Rattle.slots.specs.Columns.{column, column-at, first-at, column-long, column-set, column-before, column-behind, two-columns, zip-at, zip-long}
 use Rattle.slots.specs.Parts.{slots-long, slots-at}
 use Rattle.slots.specs.View.{vacant}
 use Rattle.columns.specs.View.{idOf, generationOf, timeOf, codeOf, slotOf, slotValues, columnsOf, tableOf}
@@ -141,9 +141,8 @@ module _ (numbers times states : List ℕ) (ln : length numbers ≡ 2 * slotCoun
   values-at : (i : ℕ) (d : Slot) → i < slotCount
       → getD (slotValues numbers times states) i d ≡ slotOf (getD numbers i 0) (getD numbers (slotCount + i) 0) (getD times i 0) (getD states i 0)
   values-at i d low =
-      let e : offset 0 + i ≡ i = omega arith in
       zip-at _ (Of.idsIn numbers) (Of.slotsOf numbers times states) i 0 vacant d (omega (arith, values-long))
-      ∙ rw (slots-at numbers times states cells-long i low, column-at 0 numbers i low, e)
+      ∙ rw (slots-at numbers times states cells-long i low, first-at numbers i low)
 
   module _ (i : ℕ) (slots : List Slot) (available : List ℕ) (t : Putting numbers times states i slots available) where
     pub putting-more : (s : Slot) → i < slotCount → s ≡ slotOf (getD numbers i 0) (getD numbers (slotCount + i) 0) (getD times i 0) (getD states i 0)

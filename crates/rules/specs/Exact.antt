@@ -6,13 +6,14 @@ use Prim.Native.Nat.{ℕ, zero, suc, _+_, _/_, _≤_, _<_}
 use native.Mathlib.Omega.{arith}
 use lib.ListN.{length, getD, take, drop}
 use lib.Seq.{getD-take, length-take-le}
+use Rattle.slots.specs.Columns.{first-at}
 use borrow.Author.Tests.{lt-ltb, le-ltb, le-leb, eq-eqb, ne-eqb, ltb-true, leb-true, eqb-true}
 use Rattle.definition.specs.Words.{if_then_else_, _=?_, _<?_, _≤?_}
 use Rattle.definition.specs.Pool.{queueLength, inRange, slotCount}
 use Rattle.definition.specs.Refusals.{mostNextId}
 use Rattle.definition.specs.declared.Options.{Options}
 use Rattle.slots.specs.declared.Head.{Head}
-use Rattle.slots.specs.View.{SlotPool, Slot, poolOf, Whole, waiterOf, vacant}
+use Rattle.slots.specs.View.{slot, SlotPool, Slot, poolOf, Whole, waiterOf, vacant, idsIn, orderIn}
 use Rattle.slots.specs.View as View
 use Rattle.slots.specs.Slots as S
 use Rattle.slots.specs.Needs.{taken}
@@ -36,16 +37,16 @@ options-pass o l =
 
 -- ── Ids ────────────────────────────────────────────────────────────────────────────────────────────────────────────────
 
-module _ (cs : List ℕ) (l : length (take slotCount cs) ≡ slotCount) where
-  below-say : (next : ℕ) → idsBelow cs next ≡ true → (j : ℕ) → getD (take slotCount cs) j 0 < next
+module _ (cs : List ℕ) (l : length (idsIn cs) ≡ slotCount) where
+  below-say : (next : ℕ) → idsBelow cs next ≡ true → (j : ℕ) → getD (idsIn cs) j 0 < next
   unfolding idsBelow
   below-say next h j =
       let at : (i : ℕ) → i < slotCount → getD cs i 0 < next = λ i k. ltb-true (getD cs i 0) next (every-all slotCount (λ i. getD cs i 0 <? next) h i k) in
-      by-lt j slotCount (λ k. omega (arith, getD-take slotCount cs j 0 k, at j k)) (λ k. omega (arith, past (take slotCount cs) 0 j (omega arith), at 0 (omega arith)))
+      by-lt j slotCount (λ k. omega (arith, first-at cs j k, at j k)) (λ k. omega (arith, past (idsIn cs) 0 j (omega arith), at 0 (omega arith)))
 
-  below-pass : (next : ℕ) → ((j : ℕ) → getD (take slotCount cs) j 0 < next) → idsBelow cs next ≡ true
+  below-pass : (next : ℕ) → ((j : ℕ) → getD (idsIn cs) j 0 < next) → idsBelow cs next ≡ true
   unfolding idsBelow
-  below-pass next h = all-every slotCount (λ i. getD cs i 0 <? next) (λ j k. lt-ltb (getD cs j 0) next (omega (arith, getD-take slotCount cs j 0 k, h j)))
+  below-pass next h = all-every slotCount (λ i. getD cs i 0 <? next) (λ j k. lt-ltb (getD cs j 0) next (omega (arith, first-at cs j k, h j)))
 
   new-say : idsDistinct cs ≡ true → (i j : ℕ) → i < j → j < slotCount → 0 < getD cs j 0 → getD cs i 0 ≡ getD cs j 0 → ⊥
   unfolding idsDistinct
@@ -53,25 +54,25 @@ module _ (cs : List ℕ) (l : length (take slotCount cs) ≡ slotCount) where
       let n : getD cs j 0 ≡ 0 → ⊥ = λ q. omega arith in
       not-among (getD cs j 0) j cs (or-other (getD cs j 0 =? 0) (not (among (getD cs j 0) j cs)) (ne-eqb (getD cs j 0) 0 n) (every-all slotCount (newId cs) h j low)) i k e
 
-  distinct-say : idsDistinct cs ≡ true → Unique (take slotCount cs)
+  distinct-say : idsDistinct cs ≡ true → Unique (idsIn cs)
   distinct-say h i j a b z e =
-      let x = getD-take slotCount cs i 0 (omega arith) in
-      let y = getD-take slotCount cs j 0 (omega arith) in
+      let x = first-at cs i (omega arith) in
+      let y = first-at cs j (omega arith) in
       let s : getD cs i 0 ≡ getD cs j 0 = sym x ∙ e ∙ y in
       by-eq i j (λ q. q) (λ q. by-lt i j (λ k. absurd (new-say h i j k (omega arith) (omega (arith, x)) s)) (λ k. absurd (new-say h j i (omega (arith, q)) (omega arith) (omega (arith, x)) (sym s))))
 
-  distinct-pass : Unique (take slotCount cs) → idsDistinct cs ≡ true
+  distinct-pass : Unique (idsIn cs) → idsDistinct cs ≡ true
   unfolding idsDistinct
   distinct-pass u = all-every slotCount (newId cs) (λ i k. by-eq (getD cs i 0) 0
       (λ z. rw (eq-eqb (getD cs i 0) 0 z))
       (λ z. rw (ne-eqb (getD cs i 0) 0 z) (new-among (getD cs i 0) i cs (λ j m e.
-      let x = getD-take slotCount cs i 0 k in
-      let y = getD-take slotCount cs j 0 (omega arith) in
+      let x = first-at cs i k in
+      let y = first-at cs j (omega arith) in
       omega (arith, u i j (omega arith) (omega arith) (omega (arith, z, x)) (x ∙ sym e ∙ sym y))))))
 
 -- ── Slots ──────────────────────────────────────────────────────────────────────────────────────────────────────────────
 
-made : (g t k : ℕ) → g ≡ 0 → t ≡ 0 → k ≡ 0 → _≡_ {A = Slot} (record { generation = g; time = t; state = k }) vacant
+made : (g t k : ℕ) → g ≡ 0 → t ≡ 0 → k ≡ 0 → _≡_ {A = Slot} (slot g t k) vacant
 made g t k a b c = rw (a, b, c)
 
 fits-vacant : (id g t k : ℕ) → id ≡ 0 → slotFits id g t k ≡ (k =? 0 && (g =? 0 && t =? 0))
@@ -82,7 +83,7 @@ fits-used : (id g t k : ℕ) → 0 < id → slotFits id g t k ≡ (1 ≤? k && k
 unfolding slotFits if_then_else_
 fits-used id g t k z = let n : id ≡ 0 → ⊥ = λ q. omega arith in rw (ne-eqb id 0 n)
 
-vacant-say : (id g t k : ℕ) → id ≡ 0 → slotFits id g t k ≡ true → _≡_ {A = Slot} (record { generation = g; time = t; state = k }) vacant
+vacant-say : (id g t k : ℕ) → id ≡ 0 → slotFits id g t k ≡ true → _≡_ {A = Slot} (slot g t k) vacant
 vacant-say id g t k e h =
     let f : (k =? 0 && (g =? 0 && t =? 0)) ≡ true = sym (fits-vacant id g t k e) ∙ h in
     let r = and-right (k =? 0) (g =? 0 && t =? 0) f in
@@ -98,7 +99,7 @@ module _ (h : Head) (cs ts ss ws : List ℕ) (w : Whole (poolOf h cs ts ss ws)) 
   P = poolOf h cs ts ss ws
 
   id-of : (j : ℕ) → j < slotCount → View.idAt P j ≡ getD cs j 0
-  id-of j low = getD-take slotCount cs j 0 low
+  id-of j low = first-at cs j low
 
   state-of : (j : ℕ) → j < slotCount → View.slotAt P j .state ≡ getD ss j 0
   state-of j low = ap (λ (s : Slot). s .state) (slot-at h cs ts ss ws w j low)
@@ -126,7 +127,7 @@ module _ (h : Head) (cs ts ss ws : List ℕ) (w : Whole (poolOf h cs ts ss ws)) 
       let t = getD ts j 0 in
       let s = getD ss j 0 in
       by-eq (getD cs j 0) 0
-      (λ e. let v : _≡_ {A = Slot} (record { generation = g; time = t; state = s }) vacant = sym (slot-at h cs ts ss ws w j k) ∙ b j (id-of j k ∙ e) in
+      (λ e. let v : _≡_ {A = Slot} (slot g t s) vacant = sym (slot-at h cs ts ss ws w j k) ∙ b j (id-of j k ∙ e) in
       fits-vacant (getD cs j 0) g t s e ∙ both-true (eq-eqb s 0 (ap (λ (x : Slot). x .state) v)) (both-true (eq-eqb g 0 (ap (λ (x : Slot). x .generation) v)) (eq-eqb t 0 (ap (λ (x : Slot). x .time) v))))
       (λ e. let r = u j (omega (arith, e, id-of j k)) in
       fits-used (getD cs j 0) g t s (omega (arith, e)) ∙ both-true (le-leb 1 s (omega (arith, state-of j k, r .0))) (le-leb s 6 (omega (arith, state-of j k, r .1)))))
@@ -147,21 +148,21 @@ module _ (h : Head) (cs ts ss ws : List ℕ) (w : Whole (poolOf h cs ts ss ws)) 
 
   -- ── The order list ──
 
-  order-fits : orderRight (drop slotCount ss) ss (h .«available_count») ≡ true → h .«available_count» ≤ slotCount
+  order-fits : orderRight (orderIn ss) ss (h .«available_count») ≡ true → h .«available_count» ≤ slotCount
   unfolding orderRight
-  order-fits t = leb-true (h .«available_count») slotCount (and-left (h .«available_count» ≤? slotCount) (every (h .«available_count») (listedAt (drop slotCount ss) ss)) t)
+  order-fits t = leb-true (h .«available_count») slotCount (and-left (h .«available_count» ≤? slotCount) (every (h .«available_count») (listedAt (orderIn ss) ss)) t)
 
-  order-at : orderRight (drop slotCount ss) ss (h .«available_count») ≡ true → (j : ℕ) → j < h .«available_count» → listedAt (drop slotCount ss) ss j ≡ true
+  order-at : orderRight (orderIn ss) ss (h .«available_count») ≡ true → (j : ℕ) → j < h .«available_count» → listedAt (orderIn ss) ss j ≡ true
   unfolding orderRight
-  order-at t = every-all (h .«available_count») (listedAt (drop slotCount ss) ss) (and-right (h .«available_count» ≤? slotCount) (every (h .«available_count») (listedAt (drop slotCount ss) ss)) t)
+  order-at t = every-all (h .«available_count») (listedAt (orderIn ss) ss) (and-right (h .«available_count» ≤? slotCount) (every (h .«available_count») (listedAt (orderIn ss) ss)) t)
 
-  order-long : h .«available_count» ≤ slotCount → length (take (h .«available_count») (drop slotCount ss)) ≡ h .«available_count»
-  order-long f = length-take-le (h .«available_count») (drop slotCount ss) (omega (arith, w .available))
+  order-long : h .«available_count» ≤ slotCount → length (take (h .«available_count») (orderIn ss)) ≡ h .«available_count»
+  order-long f = length-take-le (h .«available_count») (orderIn ss) (omega (arith, w .available))
 
-  order-listed : ((j : ℕ) → View.idAt P j ≡ 0 → View.slotAt P j ≡ vacant) → orderRight (drop slotCount ss) ss (h .«available_count») ≡ true → All (Listed (P .ids) (P .slots)) (take (h .«available_count») (drop slotCount ss))
+  order-listed : ((j : ℕ) → View.idAt P j ≡ 0 → View.slotAt P j ≡ vacant) → orderRight (orderIn ss) ss (h .«available_count») ≡ true → All (Listed (P .ids) (P .slots)) (take (h .«available_count») (orderIn ss))
   order-listed b t =
       let n = h .«available_count» in
-      let a = drop slotCount ss in
+      let a = orderIn ss in
       all-of (Listed (P .ids) (P .slots)) (take n a) (λ j k.
       let low : j < n = omega (arith, order-long (order-fits t)) in
       let e = getD a j 0 in
@@ -171,21 +172,21 @@ module _ (h : Head) (cs ts ss ws : List ℕ) (w : Whole (poolOf h cs ts ss ws)) 
       let s : View.slotAt P e .state ≡ 1 = state-of e i ∙ eqb-true (getD ss e 0) 1 (and-left (isShelved (getD ss e 0)) (not (among e j a)) r) in
       rw (getD-take n a j 0 low) (i, by-eq (View.idAt P e) 0 (λ z. absurd (omega (arith, s, ap (λ (x : Slot). x .state) (b e z)))) (λ z. omega (arith, z)), s))
 
-  order-distinct : orderRight (drop slotCount ss) ss (h .«available_count») ≡ true → Distinct (take (h .«available_count») (drop slotCount ss))
+  order-distinct : orderRight (orderIn ss) ss (h .«available_count») ≡ true → Distinct (take (h .«available_count») (orderIn ss))
   order-distinct t =
       let n = h .«available_count» in
-      let a = drop slotCount ss in
+      let a = orderIn ss in
       distinct-of (take n a) (λ i j k m e.
       let low : j < n = omega (arith, order-long (order-fits t)) in
       let x = getD a j 0 in
       let r = and-right (x <? slotCount) (isShelved (getD ss x 0) && not (among x j a)) (order-at t j low) in
       not-among x j a (and-right (isShelved (getD ss x 0)) (not (among x j a)) r) i k (sym (getD-take n a i 0 (omega arith)) ∙ e ∙ getD-take n a j 0 low))
 
-  order-pass : h .«available_count» ≤ slotCount → All (Listed (P .ids) (P .slots)) (take (h .«available_count») (drop slotCount ss)) → Distinct (take (h .«available_count») (drop slotCount ss)) → orderRight (drop slotCount ss) ss (h .«available_count») ≡ true
+  order-pass : h .«available_count» ≤ slotCount → All (Listed (P .ids) (P .slots)) (take (h .«available_count») (orderIn ss)) → Distinct (take (h .«available_count») (orderIn ss)) → orderRight (orderIn ss) ss (h .«available_count») ≡ true
   unfolding orderRight
   order-pass f al d =
       let n = h .«available_count» in
-      let a = drop slotCount ss in
+      let a = orderIn ss in
       both-true (le-leb n slotCount f) (all-every n (listedAt a ss) (λ j low.
       let k : j < length (take n a) = omega (arith, order-long f) in
       let v : Listed (P .ids) (P .slots) (getD a j 0) = rw (getD-take n a j 0 low) at (all-at (Listed (P .ids) (P .slots)) (take n a) al j k) in
@@ -272,7 +273,7 @@ module _ (h : Head) (cs ts ss ws : List ℕ) (w : Whole (poolOf h cs ts ss ws)) 
       let n = h .«available_count» in
       let m = h .«waiting_count» in
       let t = ten (inRange (h .options)) (next ≤? mostNextId) (idsBelow cs next) (idsDistinct cs) (slotsFit cs ts ss)
-      (countsRight ss (h .«total_connection_count») (h .«pending_connection_count») n) (orderRight (drop slotCount ss) ss n) (blankFrom slotCount n (drop slotCount ss)) (queueRises ws m (h .«last_request»)) (blankFrom queueLength m ws) q in
+      (countsRight ss (h .«total_connection_count») (h .«pending_connection_count») n) (orderRight (orderIn ss) ss n) (blankFrom slotCount n (orderIn ss)) (queueRises ws m (h .«last_request»)) (blankFrom queueLength m ws) q in
       let b = slots-blank h cs ts ss ws w (t .4) in
       let u = slots-used h cs ts ss ws w (t .4) in
       let c = counts-say ss (h .«total_connection_count») (h .«pending_connection_count») n (t .5) in
@@ -286,7 +287,7 @@ module _ (h : Head) (cs ts ss ws : List ℕ) (w : Whole (poolOf h cs ts ss ws)) 
         fits = order-fits h cs ts ss ws w (t .6);
         listed = order-listed h cs ts ss ws w b (t .6);
         distinct = order-distinct h cs ts ss ws w (t .6);
-        rest = blank-say slotCount n (drop slotCount ss) (w .available) (t .7);
+        rest = blank-say slotCount n (orderIn ss) (w .available) (t .7);
         shelved = sym (c .2) ∙ how-many h cs ts ss ws w b isShelved refl;
         pending = sym (c .1) ∙ how-many h cs ts ss ws w b isPending refl;
         total = sym (c .0) ∙ how-taken h cs ts ss ws w b u;
@@ -314,7 +315,7 @@ module _ (h : Head) (cs ts ss ws : List ℕ) (w : Whole (poolOf h cs ts ss ws)) 
       (how-taken h cs ts ss ws w (r .blank) (r .used) ∙ sym (r .total))
       (how-many h cs ts ss ws w (r .blank) isPending refl ∙ sym (r .pending))
       (how-many h cs ts ss ws w (r .blank) isShelved refl ∙ sym (r .shelved)))
-      (both-true (order-pass h cs ts ss ws w (r .fits) (r .listed) (r .distinct)) (blank-pass slotCount n (drop slotCount ss) (r .rest))))
+      (both-true (order-pass h cs ts ss ws w (r .fits) (r .listed) (r .distinct)) (blank-pass slotCount n (orderIn ss) (r .rest))))
       (both-true (queue-pass ws m (h .«last_request») (w .waiters) (r .queue) (r .rises)) (blank-pass queueLength m ws (r .queueRest))))
 
 -- ── What the test says ─────────────────────────────────────────────────────────────────────────────────────────────────

@@ -3,6 +3,7 @@ use mathlib.Core.Bool.{Bool, true, false, not, _&&_, _||_}
 use mathlib.Core.List.{List}
 use Prim.Native.Nat.{ℕ, zero, suc, _+_, _/_}
 use lib.ListN.{getD, drop}
+use Rattle.slots.specs.View.{orderIn}
 use Rattle.definition.specs.Words.{if_then_else_, _=?_, _<?_, _≤?_}
 use Rattle.definition.specs.Pool.{queueLength, slotCount, inRange}
 use Rattle.definition.specs.Refusals.{mostNextId}
@@ -85,5 +86,5 @@ keepsRules h numbers times states waiters =
     ((inRange (h .options) && h .«next_connection_id» ≤? mostNextId)
     && (idsBelow numbers (h .«next_connection_id») && (idsDistinct numbers && slotsFit numbers times states)))
     && ((countsRight states (h .«total_connection_count») (h .«pending_connection_count») (h .«available_count»)
-    && (orderRight (drop slotCount states) states (h .«available_count») && blankFrom slotCount (h .«available_count») (drop slotCount states)))
+    && (orderRight (orderIn states) states (h .«available_count») && blankFrom slotCount (h .«available_count») (orderIn states)))
     && (queueRises waiters (h .«waiting_count») (h .«last_request») && blankFrom queueLength (h .«waiting_count») waiters))

@@ -2,10 +2,9 @@
 ghost use mathlib.Core.Path.{_≡_};
 ghost use mathlib.Core.Bool.{_&&_, not};
 ghost use Prim.Native.Nat.{_≤_};
-ghost use lib.ListN.{drop};
 ghost use Rattle.definition.specs.Pool.{slotCount, queueLength};
 ghost use Rattle.definition.specs.Words.{_=?_, _<?_};
-ghost use Rattle.slots.specs.View.{Whole, given, before};
+ghost use Rattle.slots.specs.View.{Whole, orderIn, given, before};
 ghost use Rattle.refinement.specs.Mirror.{isPending};
 ghost use Rattle.refinement.specs.Rules.{isShelved, oneIf};
 ghost use Rattle.rules.specs.Tests.{among, isTaken, slotFits, waiterFits, idsBelow, idsDistinct, slotsFit, countsRight, orderRight, blankFrom, queueRises};
@@ -14,7 +13,9 @@ use definition::MOST_NEXT_ID;
 use definition::QUEUE;
 use definition::SLOTS;
 use slots::Head;
+use slots::GENERATIONS;
 use slots::Numbers;
+use slots::ORDER;
 use slots::States;
 use slots::Times;
 use slots::Waiters;
@@ -148,7 +149,7 @@ fn slots_fit(numbers: &Numbers, times: &Times, states: &States) -> bool
     while i < SLOTS {
         ok = both(
             ok,
-            slot_fits(numbers[i], numbers[SLOTS + i], times[i], states[i]),
+            slot_fits(numbers[i], numbers[GENERATIONS + i], times[i], states[i]),
         );
         i += 1;
     }
@@ -177,7 +178,7 @@ fn counts_right(states: &States, total: u32, pending: u32, available: usize) -> 
 
 // What is listed is a slot, is checked in, and was not met before.
 fn order_right(states: &States, n: usize) -> bool
-    ensures { λ r. ⌜ r ≡ orderRight (drop slotCount (now (states .entry))) (now (states .entry)) n ⌝ }
+    ensures { λ r. ⌜ r ≡ orderRight (orderIn (now (states .entry))) (now (states .entry)) n ⌝ }
 {
     if SLOTS < n {
         return false;
@@ -185,7 +186,7 @@ fn order_right(states: &States, n: usize) -> bool
     let mut met: [u8; SLOTS] = [0; SLOTS];
     let mut i: usize = 0;
     while i < n {
-        let e = words::as_index(states[SLOTS + i]);
+        let e = words::as_index(states[ORDER + i]);
         if SLOTS <= e {
             return false;
         }
@@ -203,7 +204,7 @@ fn order_right(states: &States, n: usize) -> bool
 
 // With no return in the loop, so that several are looked at at once.
 fn order_blank_from(states: &States, n: usize) -> bool
-    ensures { λ r. ⌜ r ≡ blankFrom slotCount n (drop slotCount (now (states .entry))) ⌝ }
+    ensures { λ r. ⌜ r ≡ blankFrom slotCount n (orderIn (now (states .entry))) ⌝ }
 {
     if SLOTS < n {
         return true;
@@ -211,7 +212,7 @@ fn order_blank_from(states: &States, n: usize) -> bool
     let mut ok = true;
     let mut i = n;
     while i < SLOTS {
-        if states[SLOTS + i] != 0 {
+        if states[ORDER + i] != 0 {
             ok = false;
         }
         i += 1;

@@ -50,6 +50,10 @@ module _ (k : ℕ) (l : List ℕ) where
       ∙ ap (take slotCount) (drop-set-add (offset k) l (j - offset k) v)
       ∙ take-set-le slotCount (drop (offset k) l) (j - offset k) v (omega arith)
 
+-- the first column, read in place
+pub first-at : (l : List ℕ) (i : ℕ) → i < slotCount → getD (column 0 l) i 0 ≡ getD l i 0
+first-at l i h = let e : offset 0 + i ≡ i = omega arith in column-at 0 l i h ∙ ap (λ (x : ℕ). getD l x 0) e
+
 drop-replicate : (n m v : ℕ) → drop n (replicate (n + m) v) ≡ replicate m v
 drop-replicate zero m v = let e : 0 + m ≡ m = omega arith in rw e
 drop-replicate (suc n) m v = let e : suc n + m ≡ suc (n + m) = omega arith in rw e (drop-replicate n m v)

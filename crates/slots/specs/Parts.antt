@@ -5,7 +5,7 @@ use Prim.Native.Nat.{ℕ, _+_, _≤_, _<_}
 use native.Mathlib.Omega.{arith}
 use lib.ListN.{length, getD, set, replicate}
 use Rattle.definition.specs.Pool.{slotCount}
-use Rattle.slots.specs.Columns.{offset, column, column-at, column-long, long-column, column-set, column-before, column-behind, column-blank, zip, zip-set, zip-set-second, zip-at, zip-long, zip-fits, zip-map, zip-replicate}
+use Rattle.slots.specs.Columns.{offset, column, column-at, first-at, column-long, long-column, column-set, column-before, column-behind, column-blank, zip, zip-set, zip-set-second, zip-at, zip-long, zip-fits, zip-map, zip-replicate}
 use Rattle.slots.specs.Order.{vacantSlot}
 use Rattle.slots.specs.View.{SlotPool, Slot, slot, vacant, withState, withTable, withAvailable, idAt, slotAt, idsIn, generationsIn, statesIn, orderIn, slotsOf, poolOf, Whole}
 use Rattle.slots.specs.declared.Head.{Head}
@@ -46,9 +46,8 @@ module _ (ns ts ss : List ℕ) (w : length (slotsOf ns ts ss) ≡ slotCount) whe
   unfolding slotsOf
   slots-at i low =
       let o = zip-fits applied (zip slot (generationsIn ns) ts) (statesIn ss) in
-      let e : offset 0 + i ≡ i = omega arith in
       zip-at applied (zip slot (generationsIn ns) ts) (statesIn ss) i (slot 0 0) 0 vacant (omega (arith, w))
-      ∙ rw (zip-at slot (generationsIn ns) ts i 0 0 (slot 0 0) (omega (arith, w, o .0)), column-at 1 ns i low, column-at 0 ss i low, e)
+      ∙ rw (zip-at slot (generationsIn ns) ts i 0 0 (slot 0 0) (omega (arith, w, o .0)), column-at 1 ns i low, first-at ss i low)
 
   -- in another state, since the time given
   pub slots-set-state : (ss' : List ℕ) (i t s : ℕ) → i < slotCount → statesIn ss' ≡ set (statesIn ss) i s
@@ -105,7 +104,7 @@ module _ (h : Head) (ns ts ss ws : List ℕ) where
   -- ── What is read ───────────────────────────────────────────────────────────────────────────────────────────────────────
 
   pub id-at : (i : ℕ) → i < slotCount → idAt pool i ≡ getD ns i 0
-  id-at i low = let e : offset 0 + i ≡ i = omega arith in column-at 0 ns i low ∙ ap (λ (x : ℕ). getD ns x 0) e
+  id-at i low = first-at ns i low
 
   pub available-at : (k : ℕ) → k < slotCount → getD (pool .available) k 0 ≡ getD ss (slotCount + k) 0
   available-at k low = column-at 1 ss k low

@@ -1,11 +1,12 @@
 use mathlib.Core.Path.{_≡_, refl, sym, _∙_}
 use mathlib.Core.Bool.{true}
-use Prim.Native.Nat.{_≤_, _-_}
+use Prim.Native.Nat.{_<_, _≤_, _-_}
 use native.Mathlib.Omega.{arith}
 use lib.ListN.{length, getD, drop, length-set}
-use lib.Seq.{getD-drop}
+use Rattle.slots.specs.Columns.{column-at}
 use borrow.Author.Tests.{le-leb, lt-leb, eq-eqb, ne-eqb}
 use denote.Ref.{now}
+use Rattle.slots.specs.View.{orderIn}
 use Rattle.definition.specs.Pool.{slotCount}
 use Rattle.rules.specs.Tests.{every, orderRight, listedAt}
 use Rattle.rules.proofs.Laws.{every-none, every-grow, Met, met-more, met-none, order-fails, listed-high, listed-unshelved, listed-met, listed-new}
@@ -14,7 +15,7 @@ use Rattle.rules.proofs.order_right.Statement.{statement}
 use Rattle.rules.proofs.order_right.Tie as tie
 
 abbrev Inv-loop : tie.InvT-loop
-Inv-loop states n met₀ i₀ met i = (i ≤ n) × (length met ≡ slotCount) × (true ≡ every i (listedAt (drop slotCount states) states)) × Met (drop slotCount states) i met
+Inv-loop states n met₀ i₀ met i = (i ≤ n) × (length met ≡ slotCount) × (true ≡ every i (listedAt (orderIn states) states)) × Met (orderIn states) i met
 
 abbrev μ-loop : tie.MeasureT-loop
 μ-loop states n met₀ i₀ met i = n - i
@@ -37,31 +38,43 @@ as-index-requires c κs = search needs
 
 returns-2 : tie.Need-returns-2 Inv-loop μ-loop
 returns-2 c =
-    let s = c .before .before .before .before .before .before .args .states .now in
-    let i = c .before .before .before .before .loop .i in
-    let is = c .before .as-index .ensures ∙ sym (getD-drop slotCount s i 0) in
-    order-fails (drop slotCount s) s i _ is (c .before .before .before .before .before .before .args .n) (search needs) (search needs) (listed-high (drop slotCount s) s i _ is (search needs))
+    let d = c .before in
+    let l = d .before .before .before in
+    let a = l .before .before .args in
+    let s = a .states .now in
+    let i = l .loop .i in
+    let low : i < slotCount = omega arith in
+    let is : d .as-index .result ≡ getD (orderIn s) i 0 = d .as-index .ensures ∙ sym (column-at 1 s i low) in
+    order-fails (orderIn s) s i _ is (a .n) (search needs) (search needs) (listed-high (orderIn s) s i _ is (search needs))
 
 element-copy-out-if3 : tie.Need-element-copy-out-if3 Inv-loop μ-loop
 element-copy-out-if3 c = search needs
 
 returns-3 : tie.Need-returns-3 Inv-loop μ-loop
 returns-3 c =
-    let s = c .before .before .before .before .before .before .before .before .args .states .now in
-    let i = c .before .before .before .before .before .before .loop .i in
-    let is = c .before .before .before .as-index .ensures ∙ sym (getD-drop slotCount s i 0) in
-    order-fails (drop slotCount s) s i _ is (c .before .before .before .before .before .before .before .before .args .n) (search needs) (search needs) (listed-unshelved (drop slotCount s) s i _ is (search needs) (ne-eqb _ _ (c .if3 .taken)))
+    let d = c .before .before .before in
+    let l = d .before .before .before in
+    let a = l .before .before .args in
+    let s = a .states .now in
+    let i = l .loop .i in
+    let low : i < slotCount = omega arith in
+    let is : d .as-index .result ≡ getD (orderIn s) i 0 = d .as-index .ensures ∙ sym (column-at 1 s i low) in
+    order-fails (orderIn s) s i _ is (a .n) (search needs) (search needs) (listed-unshelved (orderIn s) s i _ is (search needs) (ne-eqb _ _ (c .if3 .taken)))
 
 array-read-if4 : tie.Need-array-read-if4 Inv-loop μ-loop
 array-read-if4 c = search needs
 
 returns-4 : tie.Need-returns-4 Inv-loop μ-loop
 returns-4 c =
-    let s = c .before .before .before .before .before .before .before .before .before .args .states .now in
-    let i = c .before .before .before .before .before .before .before .loop .i in
-    let is = c .before .before .before .before .as-index .ensures ∙ sym (getD-drop slotCount s i 0) in
-    order-fails (drop slotCount s) s i _ is (c .before .before .before .before .before .before .before .before .before .args .n) (search needs) (search needs)
-    (listed-met (drop slotCount s) s i _ is (search needs) (eq-eqb _ _ (c .before .if3 .left)) (sym (c .before .before .before .before .before .before .before .loop .inv .3 (c .before .before .before .before .as-index .result)) ∙ ne-eqb _ _ (c .if4 .taken)))
+    let d = c .before .before .before .before in
+    let l = d .before .before .before in
+    let a = l .before .before .args in
+    let s = a .states .now in
+    let i = l .loop .i in
+    let low : i < slotCount = omega arith in
+    let is : d .as-index .result ≡ getD (orderIn s) i 0 = d .as-index .ensures ∙ sym (column-at 1 s i low) in
+    let met = sym (l .loop .inv .3 (d .as-index .result)) ∙ ne-eqb _ _ (c .if4 .taken) in
+    order-fails (orderIn s) s i _ is (a .n) (search needs) (search needs) (listed-met (orderIn s) s i _ is (search needs) (eq-eqb _ _ (c .before .if3 .left)) met)
 
 array-write-met : tie.Need-array-write-met Inv-loop μ-loop
 array-write-met c = search needs
@@ -74,11 +87,16 @@ loop-less c = search needs
 
 loop-again : tie.Need-loop-again Inv-loop μ-loop
 loop-again c =
-    let s = c .before .before .before .before .before .before .before .before .before .args .states .now in
-    let i = c .before .before .before .before .before .before .before .loop .i in
-    let is : c .before .before .before .before .as-index .result ≡ getD (drop slotCount s) i 0 = c .before .before .before .before .as-index .ensures ∙ sym (getD-drop slotCount s i 0) in
-    let n = listed-new (drop slotCount s) s i _ is (search needs) (eq-eqb _ _ (c .before .if3 .left)) (sym (c .before .before .before .before .before .before .before .loop .inv .3 (c .before .before .before .before .as-index .result)) ∙ eq-eqb _ _ (c .if4 .left)) in
-    (search needs, rw length-set (c .before .before .before .before .before .before .before .loop .inv .1), every-grow i _ (c .before .before .before .before .before .before .before .loop .inv .2) n, rw is (met-more i (drop slotCount s) (c .before .before .before .before .before .before .before .loop .met) (omega (arith, is)) (c .before .before .before .before .before .before .before .loop .inv .3)))
+    let d = c .before .before .before .before in
+    let l = d .before .before .before in
+    let a = l .before .before .args in
+    let s = a .states .now in
+    let i = l .loop .i in
+    let low : i < slotCount = omega arith in
+    let is : d .as-index .result ≡ getD (orderIn s) i 0 = d .as-index .ensures ∙ sym (column-at 1 s i low) in
+    let new = sym (l .loop .inv .3 (d .as-index .result)) ∙ eq-eqb _ _ (c .if4 .left) in
+    let n = listed-new (orderIn s) s i _ is (search needs) (eq-eqb _ _ (c .before .if3 .left)) new in
+    (search needs, rw length-set (l .loop .inv .1), every-grow i _ (l .loop .inv .2) n, rw is (met-more i (orderIn s) (l .loop .met) (omega (arith, is)) (l .loop .inv .3)))
 
 returns-5 : tie.Need-returns-5 Inv-loop μ-loop
 unfolding orderRight

@@ -7,9 +7,7 @@ use Rattle.definition.specs.Words.{if_then_else_, _<?_}
 use Rattle.definition.specs.Refusals.{refusalNo, enoughRoom}
 use Rattle.definition.specs.Bytes.{frameOf}
 use Rattle.definition.specs.declared.Refusal.the-variants.{OutputShort, Malformed}
-use Rattle.slots.specs.View.{poolOf}
-use Rattle.slots.specs.Call.{World, world, call}
-use Rattle.slots.specs.declared.Head.{Head}
+use Rattle.slots.specs.Call.{World, call}
 use Rattle.slots.specs.declared.Outcome.{Outcome}
 use Rattle.slots.specs.declared.Outcome.the-variants.{Refused, Accepted}
 use Rattle.rules.specs.Tests.{keepsRules}
@@ -41,13 +39,6 @@ keeps p = keepsRules (p .head) (numbersOf (p .slots)) (timesOf (p .slots)) (stat
 -- a call on slots, as one on a pool value
 abbrev pub back : World → Entered
 back w = entered (poolFrom (w .pool)) (w .out) (w .outcome)
-
--- too short an output is refused first, then a pool that breaks a rule
-unfoldable pub tested : Head → (numbers times states waiters bytes out : List ℕ) → World
-tested h ns ts ss ws b l =
-    if length l <? enoughRoom then world (poolOf h ns ts ss ws) l (Refused OutputShort) else
-    if keepsRules h ns ts ss ws then call (poolOf h ns ts ss ws) l (frameOf b) else
-    world (poolOf h ns ts ss ws) l (Refused Malformed)
 
 -- any pool value, any bytes, any output
 unfoldable pub entry : Pool → (bytes : List ℕ) → (out : List ℕ) → Entered

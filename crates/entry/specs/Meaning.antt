@@ -79,7 +79,8 @@ module _ (p : Pool) (f : Formed (viewOf p)) (b l : List ℕ) where
   -- a call of it is the call of its view
   pub entry-back : entry p b l ≡ back (call (viewOf p) l (frameOf b))
   entry-back = by-bool (length l <? enoughRoom)
-      (λ h. entry-short p b l (ltb-true (length l) enoughRoom h) ∙ ap (λ (q : Pool). entered q l (Refused OutputShort)) (sym (back-view p)) ∙ ap back (sym (call-short (viewOf p) l (frameOf b) (ltb-true (length l) enoughRoom h))))
+      (λ h. let s = ltb-true (length l) enoughRoom h in
+      entry-short p b l s ∙ ap (λ (q : Pool). entered q l (Refused OutputShort)) (sym (back-view p)) ∙ ap back (sym (call-short (viewOf p) l (frameOf b) s)))
       (λ h. entry-kept p b l (ltb-false (length l) enoughRoom h) (formed-keeps p f))
 
   pub entry-view : viewOf (entry p b l .pool) ≡ call (viewOf p) l (frameOf b) .pool
@@ -99,7 +100,8 @@ pub record Meant (p : Pool) (l : List ℕ) (w : Entered) (r : R.Result) : Type 0
   pub refuses : (x : Refusal) → r ≡ R.Refused x → w ≡ entered p l (Refused x)
   pub accepts : (o : Out D.Pool) → r ≡ R.Accepted o → Done p l w o
 
-pub entry-meant : (p : Pool) (m : D.Pool) → Stands (viewOf p) m → viewOf p .nextId ≤ lastNextId + 65 → (b l : List ℕ) → Meant p l (entry p b l) (R.step m (frameOf b) (length l))
+pub entry-meant : (p : Pool) (m : D.Pool) → Stands (viewOf p) m → viewOf p .nextId ≤ lastNextId + 65 → (b l : List ℕ)
+    → Meant p l (entry p b l) (R.step m (frameOf b) (length l))
 entry-meant p m st n b l =
     let f : Formed (viewOf p) = record { lists = m; stands = st; numbers = n } in
     let one = call-refines (viewOf p) m st (frameOf b) l in
@@ -167,13 +169,17 @@ answered (c ∷ cs) p m st n =
     let f : Formed (viewOf p) = record { lists = m; stands = st; numbers = n } in
     let q = entry p (c .bytes) (c .out) .pool in
     let r = R.step m (frameOf (c .bytes)) (length (c .out)) in
-    let s : Stands (viewOf q) (after m r .pool) = subst (λ (v : SlotPool). Stands v (after m r .pool)) (sym (entry-view p f (c .bytes) (c .out))) (refines-stands r st (call-refines (viewOf p) m st (frameOf (c .bytes)) (c .out))) in
+    let s : Stands (viewOf q) (after m r .pool) =
+    subst (λ (v : SlotPool). Stands v (after m r .pool)) (sym (entry-view p f (c .bytes) (c .out)))
+    (refines-stands r st (call-refines (viewOf p) m st (frameOf (c .bytes)) (c .out))) in
     (entry-meant p m st n (c .bytes) (c .out), answered cs q (after m r .pool) s (entry-formed p f (c .bytes) (c .out) .numbers))
 
 left-view : (cs : List Lend) (p : Pool) → Formed (viewOf p) → ran (map read cs) (viewOf p) ≡ viewOf (left cs p)
 unfolding ran left
 left-view [] p f = refl
-left-view (c ∷ cs) p f = ap (ran (map read cs)) (sym (entry-view p f (c .bytes) (c .out))) ∙ left-view cs (entry p (c .bytes) (c .out) .pool) (entry-formed p f (c .bytes) (c .out))
+left-view (c ∷ cs) p f =
+    ap (ran (map read cs)) (sym (entry-view p f (c .bytes) (c .out)))
+    ∙ left-view cs (entry p (c .bytes) (c .out) .pool) (entry-formed p f (c .bytes) (c .out))
 
 left-formed : (cs : List Lend) (p : Pool) → Formed (viewOf p) → Formed (viewOf (left cs p))
 unfolding left
@@ -190,8 +196,10 @@ told-writes [] p f = refl
 told-writes (c ∷ cs) p f =
     let q = entry p (c .bytes) (c .out) .pool in
     let w = call (viewOf p) (c .out) (frameOf (c .bytes)) in
-    let a : recordsIn (entry p (c .bytes) (c .out) .outcome) ≡ wrote (w .outcome) = ap (λ (x : Entered). recordsIn (x .outcome)) (entry-back p f (c .bytes) (c .out)) ∙ recorded (w .outcome) in
-    let b : told cs q ≡ writes (map read cs) (w .pool) = told-writes cs q (entry-formed p f (c .bytes) (c .out)) ∙ ap (writes (map read cs)) (entry-view p f (c .bytes) (c .out)) in
+    let a : recordsIn (entry p (c .bytes) (c .out) .outcome) ≡ wrote (w .outcome) =
+    ap (λ (x : Entered). recordsIn (x .outcome)) (entry-back p f (c .bytes) (c .out)) ∙ recorded (w .outcome) in
+    let b : told cs q ≡ writes (map read cs) (w .pool) =
+    told-writes cs q (entry-formed p f (c .bytes) (c .out)) ∙ ap (writes (map read cs)) (entry-view p f (c .bytes) (c .out)) in
     omega (arith, a, b)
 
 pub entries-run : (cs : List Lend) (p : Pool) (m : D.Pool) → Stands (viewOf p) m → viewOf p .nextId ≤ lastNextId + 65 → Ran cs p m
@@ -276,15 +284,24 @@ same-counts : {a b c d a' b' c' d' : ℕ} → a ≡ a' → b ≡ b' → c ≡ c'
     → _≡_ {A = Counts} (record { available = a; lent = b; pending = c; waiting = d }) (record { available = a'; lent = b'; pending = c'; waiting = d' })
 same-counts p q r s = rw (p, q, r, s)
 
-pub counts-meant : (p : Pool) (m : D.Pool) → Stands (viewOf p) m
-    → countsOf p ≡ record { available = length (m .available); lent = length (m .lent); pending = length (m .pending); waiting = length (m .waiting) }
+abbrev pub lengths : D.Pool → Counts
+lengths m = record {
+  available = length (m .available);
+  lent = length (m .lent);
+  pending = length (m .pending);
+  waiting = length (m .waiting);
+}
+
+pub counts-meant : (p : Pool) (m : D.Pool) → Stands (viewOf p) m → countsOf p ≡ lengths m
 counts-meant p m st =
     let t = st .table in
     let q = st .alike .queue in
     let a = counted t in
-    let w : p .head .«waiting_count» ≡ length (m .waiting) = sym (length-take-le (p .head .«waiting_count») (p .waiters) (omega (arith, q .room, q .fits))) ∙ sym (length-map (take (p .head .«waiting_count») (p .waiters)) waiterOf) ∙ ap length (q .waits) in
+    let w : p .head .«waiting_count» ≡ length (m .waiting) =
+    sym (length-take-le (p .head .«waiting_count») (p .waiters) (omega (arith, q .room, q .fits)))
+    ∙ sym (length-map (take (p .head .«waiting_count») (p .waiters)) waiterOf)
+    ∙ ap length (q .waits) in
     same-counts (sym a) (omega (arith, a, t .total, t .pendings)) (t .pendings) w
 
-pub rules-counts : (p : Pool) → Rules (viewOf p)
-    → countsOf p ≡ record { available = length (listsOf (viewOf p) .available); lent = length (listsOf (viewOf p) .lent); pending = length (listsOf (viewOf p) .pending); waiting = length (listsOf (viewOf p) .waiting) }
+pub rules-counts : (p : Pool) → Rules (viewOf p) → countsOf p ≡ lengths (listsOf (viewOf p))
 rules-counts p r = counts-meant p (listsOf (viewOf p)) (rules-stand (viewOf p) r)

@@ -8,7 +8,7 @@ use lib.ListN.{length, getD, replicate, length-replicate}
 use Rattle.definition.specs.Words.{if_then_else_}
 use Rattle.definition.specs.Pool as D
 use Rattle.definition.specs.Pool.{fresh, inRange}
-use Rattle.definition.specs.Records.{told}
+use Rattle.definition.specs.Records.{Record, PoolReady, told}
 use Rattle.definition.specs.Steps.{Out, _>>_, leaveLent, leavePending, shelve, lendOut, createPendingConnection, createMany, closePerished, tellAll, enter, queue, request, markAsReady, handle, canService, establish, lend, takeAvailable, checkOut, serveFront, service, event}
 use Rattle.definition.specs.Refusals as R
 use Rattle.definition.specs.Refusals.{first, tests, outcome, lastNextId}
@@ -71,38 +71,23 @@ step1 : R.step (fresh options) (Good MarkAsReady 1) 8192 ≡ R.Accepted o1
 unfolding R.step tests first if_then_else_
 step1 = refl
 
-step2 : R.step (o1 .pool) (Good (CheckOut 1) 1) 8192 ≡ R.Accepted o2
+-- the second is accepted too; there is one record, of kind 5; then there are two, and connection 1 is taken
+record Calls : Type 0 where
+  second : R.step (o1 .pool) (Good (CheckOut 1) 1) 8192 ≡ R.Accepted o2
+  one : o1 .records ≡ PoolReady ∷ []
+  ready : o1 .pool .state ≡ Ready
+  written : o1 .pool .written ≡ 1
+  first-id : o1 .pool .nextId ≡ 1
+  two : length (o2 .records) ≡ 2
+  second-id : o2 .pool .nextId ≡ 2
+
+calls : Calls
 unfolding R.step tests first outcome event handle request queue markAsReady service canService serveFront checkOut takeAvailable lend establish createPendingConnection told leaveLent leavePending shelve lendOut enter _>>_ if_then_else_
-step2 = refl
+calls = record { second = refl; one = refl; ready = refl; written = refl; first-id = refl; two = refl; second-id = refl }
 
--- one record, of kind 5; then two, and connection 1 is taken
-one-record : length (o1 .records) ≡ 1
-unfolding outcome event handle request queue markAsReady service canService serveFront checkOut takeAvailable lend establish createPendingConnection told leaveLent leavePending shelve lendOut enter _>>_ if_then_else_
-one-record = refl
-
-kind-5 : (l : List ℕ) → getD (lay 0 0 (o1 .records) l) 0 0 ≡ 5
-unfolding lay laid recordBytes outcome event handle request queue markAsReady service canService serveFront checkOut takeAvailable lend establish createPendingConnection told leaveLent leavePending shelve lendOut enter _>>_ if_then_else_
+kind-5 : (l : List ℕ) → getD (lay 0 0 (PoolReady ∷ []) l) 0 0 ≡ 5
+unfolding lay laid recordBytes
 kind-5 l = refl
-
-now-ready : o1 .pool .state ≡ Ready
-unfolding outcome event handle request queue markAsReady service canService serveFront checkOut takeAvailable lend establish createPendingConnection told leaveLent leavePending shelve lendOut enter _>>_ if_then_else_
-now-ready = refl
-
-one-written : o1 .pool .written ≡ 1
-unfolding outcome event handle request queue markAsReady service canService serveFront checkOut takeAvailable lend establish createPendingConnection told leaveLent leavePending shelve lendOut enter _>>_ if_then_else_
-one-written = refl
-
-first-id : o1 .pool .nextId ≡ 1
-unfolding outcome event handle request queue markAsReady service canService serveFront checkOut takeAvailable lend establish createPendingConnection told leaveLent leavePending shelve lendOut enter _>>_ if_then_else_
-first-id = refl
-
-two-records : length (o2 .records) ≡ 2
-unfolding outcome event handle request queue markAsReady service canService serveFront checkOut takeAvailable lend establish createPendingConnection told leaveLent leavePending shelve lendOut enter _>>_ if_then_else_
-two-records = refl
-
-second-id : o2 .pool .nextId ≡ 2
-unfolding outcome event handle request queue markAsReady service canService serveFront checkOut takeAvailable lend establish createPendingConnection told leaveLent leavePending shelve lendOut enter _>>_ if_then_else_
-second-id = refl
 
 abbrev start : Pool
 start = freshPool options
@@ -126,7 +111,7 @@ goes-on = entry-formed start starts ready room
 
 done2 : Done next room (entry next asked room) o2
 done2 = entry-meant next (o1 .pool) (done1 .pool) (goes-on .numbers) asked room .accepts o2
-    (ap (λ (f : Frame). R.step (o1 .pool) f (length room)) asked-frame ∙ ap (R.step (o1 .pool) (Good (CheckOut 1) 1)) room-long ∙ step2)
+    (ap (λ (f : Frame). R.step (o1 .pool) f (length room)) asked-frame ∙ ap (R.step (o1 .pool) (Good (CheckOut 1) 1)) room-long ∙ calls .second)
 
 -- ── What meets the contract ────────────────────────────────────────────────────────────────────────────────────────────
 
@@ -145,10 +130,10 @@ module _ (e : Calling) (h : Meets e) where
   second-call = h next (formed-typed next goes-on) asked room
 
   says-one : e start ready room .outcome ≡ Accepted 1
-  says-one = ap (λ (w : Entered). w .outcome) first-call ∙ done1 .outcome ∙ ap Accepted one-record
+  says-one = ap (λ (w : Entered). w .outcome) first-call ∙ done1 .outcome ∙ ap (λ (rs : List Record). Accepted (length rs)) (calls .one)
 
   says-two : e next asked room .outcome ≡ Accepted 2
-  says-two = ap (λ (w : Entered). w .outcome) second-call ∙ done2 .outcome ∙ ap Accepted two-records
+  says-two = ap (λ (w : Entered). w .outcome) second-call ∙ done2 .outcome ∙ ap Accepted (calls .two)
 
   -- not one that refuses everything
   pub not-refusing : ((p : Pool) (b l : List ℕ) → (r : Refusal) × (e p b l .outcome ≡ Refused r)) → ⊥
@@ -161,21 +146,30 @@ module _ (e : Calling) (h : Meets e) where
   -- nor one that answers 17 always
   pub not-17-always : ((p : Pool) (b l : List ℕ) (n : ℕ) → e p b l .outcome ≡ Accepted n → getD (e p b l .out) 0 0 ≡ 17) → ⊥
   not-17-always n =
-      let a : getD (e start ready room .out) 0 0 ≡ 5 = ap (λ (w : Entered). getD (w .out) 0 0) first-call ∙ ap (λ (l : List ℕ). getD l 0 0) (done1 .out) ∙ kind-5 room in
+      let a : getD (e start ready room .out) 0 0 ≡ 5 =
+      ap (λ (w : Entered). getD (w .out) 0 0) first-call
+      ∙ ap (λ (l : List ℕ). getD l 0 0) (done1 .out)
+      ∙ ap (λ (rs : List Record). getD (lay 0 0 rs room) 0 0) (calls .one)
+      ∙ kind-5 room in
       omega (arith, a, n start ready room 1 says-one)
 
   -- nor one that stores nothing
   pub not-storing-nothing : ((p : Pool) (b l : List ℕ) → e p b l .pool ≡ p) → ⊥
   not-storing-nothing n =
-      let a : viewOf start .state ≡ Ready = ap (λ (p : Pool). viewOf p .state) (sym (n start ready room) ∙ ap (λ (w : Entered). w .pool) first-call) ∙ done1 .pool .alike .state ∙ now-ready in
+      let a : viewOf start .state ≡ Ready =
+      ap (λ (p : Pool). viewOf p .state) (sym (n start ready room) ∙ ap (λ (w : Entered). w .pool) first-call)
+      ∙ done1 .pool .alike .state
+      ∙ calls .ready in
       let z : _≡_ {A = ℕ} 0 1 = cc in omega arith
 
   -- nor one that serves the first event, and from then on only numbers records
-  pub not-numbering-only : ((p : Pool) (b l : List ℕ) → 0 < p .head .serial → e p b l .pool .head .«next_connection_id» ≡ p .head .«next_connection_id») → ⊥
+  pub not-numbering-only :
+      ((p : Pool) (b l : List ℕ) → 0 < p .head .serial → e p b l .pool .head .«next_connection_id» ≡ p .head .«next_connection_id») → ⊥
   not-numbering-only n =
-      let s : next .head .serial ≡ 1 = done1 .pool .alike .serial ∙ ap serialOf one-written in
-      let a : next .head .«next_connection_id» ≡ 1 = done1 .pool .alike .nextId ∙ first-id in
-      let b : e next asked room .pool .head .«next_connection_id» ≡ 2 = ap (λ (w : Entered). w .pool .head .«next_connection_id») second-call ∙ done2 .pool .alike .nextId ∙ second-id in
+      let s : next .head .serial ≡ 1 = done1 .pool .alike .serial ∙ ap serialOf (calls .written) in
+      let a : next .head .«next_connection_id» ≡ 1 = done1 .pool .alike .nextId ∙ calls .first-id in
+      let b : e next asked room .pool .head .«next_connection_id» ≡ 2 =
+      ap (λ (w : Entered). w .pool .head .«next_connection_id») second-call ∙ done2 .pool .alike .nextId ∙ calls .second-id in
       omega (arith, a, b, n next asked room (omega (arith, s)))
 
   -- nor one that invents its count

@@ -1,48 +1,10 @@
 // The entry point: a pool value, bytes and an output, for all inputs, with no condition on any.
 ghost use mathlib.Core.Path.{_≡_};
-ghost use Rattle.slots.specs.View.{Whole, given, after};
-ghost use Rattle.slots.specs.Call.{world};
-ghost use Rattle.entry.specs.Entry.{entered, tested, entry};
+ghost use Rattle.entry.specs.Entry.{entered, entry};
 use definition::ROOM;
 use definition::Refusal;
-use event::Answer;
 use pool::Pool;
-use slots::Head;
-use slots::Numbers;
 use slots::Outcome;
-use slots::States;
-use slots::Times;
-use slots::Waiters;
-
-// On the columns: too short an output is refused first, then a pool that breaks a rule.
-fn tested(
-    head: Head,
-    numbers: &mut Numbers,
-    times: &mut Times,
-    states: &mut States,
-    waiters: &mut Waiters,
-    frame: &[u8],
-    out: &mut [u8],
-) -> Answer
-    requires { ⌜ Whole (given head numbers times states waiters) ⌝ }
-    ensures { λ r. ⌜ world (after (r .head) numbers times states waiters) (now (out .exit)) (r .outcome)
-        ≡ tested head (now (numbers .entry)) (now (times .entry)) (now (states .entry)) (now (waiters .entry)) (now (frame .entry)) (now (out .entry)) ⌝ }
-{
-    if out.len() < ROOM {
-        return Answer {
-            head: head,
-            outcome: Outcome::Refused(Refusal::OutputShort),
-        };
-    }
-    if !rules::keeps_rules(head, numbers, times, states, waiters) {
-        return Answer {
-            head: head,
-            outcome: Outcome::Refused(Refusal::Malformed),
-        };
-    }
-    let f = reading::frame_of(frame);
-    event::call(head, numbers, times, states, waiters, out, f)
-}
 
 pub struct Stepped {
     pub pool: Pool,
@@ -53,6 +15,12 @@ pub struct Stepped {
 pub fn step(pool: Pool, frame: &[u8], out: &mut [u8]) -> Stepped
     ensures { λ r. ⌜ entered (r .pool) (now (out .exit)) (r .outcome) ≡ entry pool (now (frame .entry)) (now (out .entry)) ⌝ }
 {
+    if out.len() < ROOM {
+        return Stepped {
+            pool: pool,
+            outcome: Outcome::Refused(Refusal::OutputShort),
+        };
+    }
     let head = pool.head;
     let slots = pool.slots;
     let available = pool.available;
@@ -61,14 +29,21 @@ pub fn step(pool: Pool, frame: &[u8], out: &mut [u8]) -> Stepped
     let mut numbers = c.numbers;
     let mut times = c.times;
     let mut states = c.states;
-    let a = tested(
+    if !rules::keeps_rules(head, &numbers, &times, &states, &waiters) {
+        return Stepped {
+            pool: pool,
+            outcome: Outcome::Refused(Refusal::Malformed),
+        };
+    }
+    let f = reading::frame_of(frame);
+    let a = event::call(
         head,
         &mut numbers,
         &mut times,
         &mut states,
         &mut waiters,
-        frame,
         out,
+        f,
     );
     let h = a.head;
     let o = a.outcome;

@@ -5,14 +5,14 @@ ghost use lib.ListN.{length, take, drop};
 ghost use Rattle.newlines.specs.Newlines.{lineLen, clean};
 
 // No newline among the first 48: with no return in the loop, so that 16 are looked at at once.
-fn is_clean(text: &[u8]) -> bool
-    requires { ⌜ 48 ≤ length (now text) ⌝ }
-    ensures { λ r. ⌜ r ≡ clean (take 48 (now (text .entry))) ⌝ }
+fn is_clean(bytes: &[u8]) -> bool
+    requires { ⌜ 48 ≤ length (now bytes) ⌝ }
+    ensures { λ r. ⌜ r ≡ clean (take 48 (now (bytes .entry))) ⌝ }
 {
     let mut good = true;
     let mut i: usize = 0;
     while i < 48 {
-        if text[i] == 10 {
+        if bytes[i] == 10 {
             good = false;
         }
         i += 1;

@@ -43,9 +43,9 @@ went s₀ text before after s n w k l =
 pub finishes : (k : Took Play ℕ) (before after : List ℕ) (s : Play) (n : ℕ) → Lined k before after s n → Finishes k before after (s .used) n
 finishes k before after s n l = record { used = ap (λ (x : Play). x .used) (l .state); written = l .written; few = l .few; laid = l .laid }
 
--- of what is left of a text, some was read, and no more than there is
-pub fed : (t : List ℕ) (at n : ℕ) → at < length t → n ≤ length (take (length t - at) (drop at t)) → (0 < length (take (length t - at) (drop at t)) → 0 < n)
-    → (0 < n) × (at + n ≤ length t)
-fed t at n h k m =
-    let l : length (take (length t - at) (drop at t)) ≡ length t - at = simp (length-take, length-drop) (omega arith) in
+-- of the piece of a text from `at` up to e, some was read, and no more than there is
+pub fed : (t : List ℕ) (at e n : ℕ) → at < e → e ≤ length t → n ≤ length (take (e - at) (drop at t)) → (0 < length (take (e - at) (drop at t)) → 0 < n)
+    → (0 < n) × (at + n ≤ e)
+fed t at e n h g k m =
+    let l : length (take (e - at) (drop at t)) ≡ e - at = simp (length-take, length-drop) (omega arith) in
     (m (omega arith), omega arith)

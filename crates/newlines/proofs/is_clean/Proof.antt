@@ -11,10 +11,10 @@ use Rattle.newlines.proofs.is_clean.Reads as reads
 use Rattle.newlines.proofs.is_clean.Lts as lts
 
 abbrev Inv-loop : tie.InvT-loop
-Inv-loop text good₀ i₀ good i = (i ≤ 48) × (good ≡ clean (take i text))
+Inv-loop bytes good₀ i₀ good i = (i ≤ 48) × (good ≡ clean (take i bytes))
 
 abbrev μ-loop : tie.MeasureT-loop
-μ-loop text good₀ i₀ good i = 48 - i
+μ-loop bytes good₀ i₀ good i = 48 - i
 
 loop-holds : tie.Need-loop-holds Inv-loop μ-loop
 unfolding clean
@@ -32,7 +32,7 @@ loop-less c = search needs
 loop-again : tie.Need-loop-again Inv-loop μ-loop
 loop-again c =
     let a = c .before .before .before .loop in
-    let t = c .before .before .before .before .args .text .now in
+    let t = c .before .before .before .before .args .bytes .now in
     let h : a .i < length t = omega arith in
     (omega arith, ⊎-elim (λ w. w .1 ∙ clean-lost t (a .i) h (w .0 .taken)) (λ w. w .1 ∙ a .inv .1 ∙ clean-kept t (a .i) h (w .0 .left)) (c .if1 .came))
 
@@ -40,7 +40,7 @@ returns : tie.Need-returns Inv-loop μ-loop
 returns c =
     let a = c .before .loop in
     let e : a .i ≡ 48 = omega arith in
-    a .inv .1 ∙ ap (λ (k : ℕ). clean (take k (c .before .before .args .text .now))) e
+    a .inv .1 ∙ ap (λ (k : ℕ). clean (take k (c .before .before .args .bytes .now))) e
 
 pub is-clean-spec : {M : Type 1} → statement M
 is-clean-spec =

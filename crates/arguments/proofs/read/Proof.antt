@@ -1,12 +1,11 @@
 use Prim.Native.Nat.{_-_}
-use native.Mathlib.Omega.{arith}
 use borrow.Author.Needs.{needs}
-use Rattle.replay_main.proofs.arguments.Statement.{statement}
-use Rattle.replay_main.proofs.arguments.Tie as tie
-use Rattle.replay_main.proofs.arguments.Reads as reads
-use Rattle.replay_main.proofs.arguments.Lts as lts
+use Rattle.arguments.proofs.read.Statement.{statement}
+use Rattle.arguments.proofs.read.Tie as tie
+use Rattle.arguments.proofs.read.Reads as reads
+use Rattle.arguments.proofs.read.Lts as lts
+use Rattle.arguments.proofs.take_argument.Reads as take-argument-reads
 use Rattle.os.proofs.arg_count.Reads as arg-count-reads
-use Rattle.replay_main.proofs.argument.Reads as argument-reads
 
 abbrev Inv-loop : tie.InvT-loop
 Inv-loop a₀ n i₀ a i = Unit {0}
@@ -15,16 +14,16 @@ abbrev μ-loop : tie.MeasureT-loop
 μ-loop a₀ n i₀ a i = n - i
 
 arg-count-requires : tie.Need-arg-count-requires Inv-loop μ-loop
-arg-count-requires c κs = tt
+arg-count-requires c κs = search needs
 
 loop-holds : tie.Need-loop-holds Inv-loop μ-loop
-loop-holds c = tt
+loop-holds c = search needs
 
-argument-requires : tie.Need-argument-requires Inv-loop μ-loop
-argument-requires c κs = tt
+take-argument-requires : tie.Need-take-argument-requires Inv-loop μ-loop
+take-argument-requires c κs = search needs
 
 returns : tie.Need-returns Inv-loop μ-loop
-returns c = tt
+returns c = search needs
 
 add-i : tie.Need-add-i Inv-loop μ-loop
 add-i c = search needs
@@ -33,23 +32,23 @@ loop-less : tie.Need-loop-less Inv-loop μ-loop
 loop-less c = search needs
 
 loop-again : tie.Need-loop-again Inv-loop μ-loop
-loop-again c = tt
+loop-again c = search needs
 
 returns-2 : tie.Need-returns-2 Inv-loop μ-loop
-returns-2 c = tt
+returns-2 c = search needs
 
 returns-3 : tie.Need-returns-3 Inv-loop μ-loop
-returns-3 c = tt
+returns-3 c = search needs
 
-pub arguments-spec : {M : Type 1} → statement M
-arguments-spec =
+pub read-spec : {M : Type 1} → statement M
+read-spec =
     tie.close
     (tie.spec
     Inv-loop
     μ-loop
     arg-count-requires
     loop-holds
-    argument-requires
+    take-argument-requires
     returns
     add-i
     loop-less

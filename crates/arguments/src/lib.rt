@@ -1,0 +1,132 @@
+// What the arguments of a replay ask: [--budget N] [--used] [FILE].
+ghost use mathlib.Core.Path.{_≡_};
+ghost use Rattle.arguments.specs.Asked.{decimal, numberOf, asked};
+
+// Where `good`, a number.
+struct Number {
+    good: bool,
+    value: u64,
+}
+
+// A word in decimal, where it is a number that fits.
+fn number_of(word: &[u8]) -> Number
+    ensures { λ r. ⌜ r ≡ numberOf (decimal (now (word .entry))) ⌝ }
+{
+    let mut v: u64 = 0;
+    let mut i: usize = 0;
+    while i < word.len() {
+        let c = word[i];
+        if c < 48 {
+            return Number {
+                good: false,
+                value: 0,
+            };
+        }
+        if 57 < c {
+            return Number {
+                good: false,
+                value: 0,
+            };
+        }
+        if 1844674407370955161 < v {
+            return Number {
+                good: false,
+                value: 0,
+            };
+        }
+        let d = (c - 48) as u64;
+        let tens = v * 10;
+        if 18446744073709551615 - d < tens {
+            return Number {
+                good: false,
+                value: 0,
+            };
+        }
+        v = tens + d;
+        i += 1;
+    }
+    if word.len() == 0 {
+        return Number {
+            good: false,
+            value: 0,
+        };
+    }
+    Number {
+        good: true,
+        value: v,
+    }
+}
+
+// What the words so far ask: the budget, whether the frames used are told, and which argument is the file, 0 for none; and
+// whether the budget's number comes next.
+pub struct Asked {
+    pub good: bool,
+    pub budget: u64,
+    pub is_used: bool,
+    pub file: usize,
+    pub is_number: bool,
+}
+
+// One word more, the argument i.
+fn take_word(a: Asked, i: usize, word: &[u8]) -> Asked
+    ensures { λ r. ⌜ r ≡ asked a i (now (word .entry)) ⌝ }
+{
+    let mut r = a;
+    if r.is_number {
+        let n = number_of(word);
+        r.budget = n.value;
+        r.good = n.good;
+        r.is_number = false;
+        return r;
+    }
+    if check::same(word, b"--budget") {
+        r.is_number = true;
+        return r;
+    }
+    if check::same(word, b"--used") {
+        r.is_used = true;
+        return r;
+    }
+    if r.file == 0 {
+        r.file = i;
+        return r;
+    }
+    r.good = false;
+    r
+}
+
+fn take_argument(a: Asked, i: usize) -> Asked {
+    let mut r = a;
+    let mut word = io::buffer();
+    let n = os::arg(i, &mut word);
+    if os::errno() != 0 {
+        os::fail(b"argument");
+        r.good = false;
+        return r;
+    }
+    take_word(r, i, &word[..n])
+}
+
+// What all of them ask; without a budget, all frames are taken.
+pub fn read() -> Asked {
+    let mut a = Asked {
+        good: true,
+        budget: u64::MAX,
+        is_used: false,
+        file: 0,
+        is_number: false,
+    };
+    let n = os::arg_count();
+    let mut i: usize = 1;
+    while i < n {
+        a = take_argument(a, i);
+        if !a.good {
+            return a;
+        }
+        i += 1;
+    }
+    if a.is_number {
+        a.good = false;
+    }
+    a
+}

@@ -44,7 +44,7 @@ view-whole p t = record {
 -- it is exact: a pool value passes exactly where its view keeps the rules
 pub keeps-exact : (p : Pool) → Typed p → Exactly (keeps p) (viewOf p)
 keeps-exact p t =
-    let e = view-columns p (t .slots) in
+    let e = view-columns p (t .slots) (t .available) in
     subst (λ (v : SlotPool). Exactly (keeps p) v) (sym e)
     (exactly (p .head) (numbersOf (p .slots)) (timesOf (p .slots)) (statesOf (p .slots) (p .available)) (p .waiters) (keeps p)
     (subst Whole e (view-whole p t)) (t .serial) refl)
@@ -77,7 +77,7 @@ module _ (p : Pool) (t : Typed p) (r : Parts) (a : r ≡ columnsOf (p .slots) (p
   -- the columns that were taken are the view's
   apart-view : poolOf (p .head) (r .numbers) (r .times) (r .states) (p .waiters) ≡ viewOf p
   apart-view =
-      ap (λ (x : Parts). poolOf (p .head) (x .numbers) (x .times) (x .states) (p .waiters)) a ∙ sym (view-columns p (t .slots))
+      ap (λ (x : Parts). poolOf (p .head) (x .numbers) (x .times) (x .states) (p .waiters)) a ∙ sym (view-columns p (t .slots) (t .available))
 
   pub apart-whole : Whole (poolOf (p .head) (r .numbers) (r .times) (r .states) (p .waiters))
   apart-whole = subst Whole (sym apart-view) (view-whole p t)

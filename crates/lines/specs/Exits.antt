@@ -67,8 +67,8 @@ lined-bad r p l b a r' why e h =
     (record { state = refl; written = sym (length-refused why 1); few = omega arith; laid = h; able = tt })
 
 module _ (r : Pace) (p : SlotPool) (x : Option Options) (b : List ℕ) where
-  pub opens-bad : (a : List ℕ) (r' : Pace) (why : Refusal) → ((s : Play) → options s x ≡ badly s why) → r' ≡ endedPace r → a ≡ refusedLine why 1 ++ drop logLineLength b
-      → Opens r p x b a r' p logLineLength
+  pub opens-bad : (a : List ℕ) (r' : Pace) (why : Refusal) → ((s : Play) → options s x ≡ badly s why) → r' ≡ endedPace r
+      → a ≡ refusedLine why 1 ++ drop logLineLength b → Opens r p x b a r' p logLineLength
   opens-bad a r' why k e h =
       record { lined = λ l. subst (λ (t : Took Play ℕ). Lined t b a (playOf r' p l) logLineLength) (sym (k (playOf r p l))) (lined-bad r p l b a r' why e h) }
 
@@ -126,7 +126,8 @@ module _ (r : Pace) (p : SlotPool) (sc l b : List ℕ) where
     unfolding lineSlots
     line-first e k = subst (λ (g : Phase). Lined (lineIn (playOf r p sc) g l) b a (playOf r' p' sc) n) (sym e) (k .lined sc)
 
-    pub line-going : (sc' : List ℕ) → r .phase ≡ Going → r .used < r .budget → Lined (answered (playOf r p sc) (call p sc (frameOfLine l))) b a (playOf r' p' sc') n
+    pub line-going : (sc' : List ℕ) → r .phase ≡ Going → r .used < r .budget
+        → Lined (answered (playOf r p sc) (call p sc (frameOfLine l))) b a (playOf r' p' sc') n
         → Lined (lineSlots (playOf r p sc) l) b a (playOf r' p' sc') n
     unfolding lineSlots if_then_else_
     line-going sc' e h k =
@@ -148,10 +149,14 @@ module _ (r : Pace) (p : SlotPool) (sc l b : List ℕ) where
 -- ── The end ────────────────────────────────────────────────────────────────────────────────────────────────────────────────
 
 module _ (r : Pace) (b : List ℕ) where
-  pub end-first : (a : List ℕ) (r' : Pace) → r .phase ≡ First → r' ≡ endedPace r → a ≡ refusedLine Malformed 1 ++ drop logLineLength b → Ends r b a r' logLineLength
+  pub end-first : (a : List ℕ) (r' : Pace) → r .phase ≡ First → r' ≡ endedPace r → a ≡ refusedLine Malformed 1 ++ drop logLineLength b
+      → Ends r b a r' logLineLength
   unfolding lastSlots
   end-first a r' e k h =
-      record { lined = λ p l u. subst (λ (g : Phase). Lined (lastIn (playOf r p l) g) b a (playOf r' p l) logLineLength) (sym e) (lined-bad r p l b a r' Malformed k h) }
+      record {
+        lined = λ p l u. subst (λ (g : Phase). Lined (lastIn (playOf r p l) g) b a (playOf r' p l) logLineLength) (sym e)
+            (lined-bad r p l b a r' Malformed k h);
+      }
 
   pub end-going : r .phase ≡ Going → Ends r b b r 0
   unfolding lastSlots

@@ -51,7 +51,10 @@ module _ (s : Play) where
   options (some o) = made (withDefaults o)
 
   abbrev pub answered : World → Took Play ℕ
-  answered w = record { state = record { phase = Going; used = s .used + 1; budget = s .budget; pool = w .pool; scratch = w .out }; out = saidOf (w .outcome) (w .out) (s .used + 2) }
+  answered w = record {
+    state = record { phase = Going; used = s .used + 1; budget = s .budget; pool = w .pool; scratch = w .out };
+    out = saidOf (w .outcome) (w .out) (s .used + 2);
+  }
 
   abbrev pub lineIn : Phase → List ℕ → Took Play ℕ
   lineIn First l = options (optionsOfLine l)

@@ -79,7 +79,8 @@ len-clean n [] h c e = absurd (omega arith)
 len-clean zero (a ∷ l) h c e = rw (eq-eqb a newline e)
 len-clean (suc n) (a ∷ l) h c e = go (a =? newline) refl c (λ k. len-clean n l (omega arith) k e)
   where
-    go : (b : Bool) → (a =? newline) ≡ b → (if b then false else clean (take n l)) ≡ true → (clean (take n l) ≡ true → lineLen l ≡ n + 1) → (if b then 1 else suc (lineLen l)) ≡ suc n + 1
+    go : (b : Bool) → (a =? newline) ≡ b → (if b then false else clean (take n l)) ≡ true → (clean (take n l) ≡ true → lineLen l ≡ n + 1)
+        → (if b then 1 else suc (lineLen l)) ≡ suc n + 1
     go true q k ih = absurd (false≢true k)
     go false q k ih = omega (arith, ih k)
 
@@ -89,7 +90,8 @@ clean-more [] i h = absurd (omega arith)
 clean-more (a ∷ l) zero h = refl
 clean-more (a ∷ l) (suc i) h =
     let e : suc i + 1 ≡ suc (i + 1) = omega arith in
-    ap (λ (n : ℕ). clean (take n (a ∷ l))) e ∙ ap (λ (b : Bool). if a =? newline then false else b) (clean-more l i (omega arith)) ∙ swap (a =? newline) (getD l i 0 =? newline) (clean (take i l))
+    ap (λ (n : ℕ). clean (take n (a ∷ l))) e ∙ ap (λ (b : Bool). if a =? newline then false else b) (clean-more l i (omega arith))
+    ∙ swap (a =? newline) (getD l i 0 =? newline) (clean (take i l))
   where
     swap : (x y k : Bool) → (if x then false else (if y then false else k)) ≡ (if y then false else (if x then false else k))
     swap true true k = refl
@@ -106,8 +108,8 @@ unfolding if_then_else_
 clean-kept s i h e = sym (clean-more s i h ∙ rw (ne-eqb (getD s i 0) newline e))
 
 -- a frame's line: 48 bytes with no newline, and then one
-pub whole-line : (text : List ℕ) (at : ℕ) → 49 ≤ length text - at → getD text (at + 48) 0 ≡ newline → clean (take 48 (take (length text - at) (drop at text))) ≡ true
-    → at + 49 ≡ at + lineLen (drop at text)
+pub whole-line : (text : List ℕ) (at : ℕ) → 49 ≤ length text - at → getD text (at + 48) 0 ≡ newline
+    → clean (take 48 (take (length text - at) (drop at text))) ≡ true → at + 49 ≡ at + lineLen (drop at text)
 whole-line text at h n c =
     let all : take (length text - at) (drop at text) ≡ drop at text = take-all (length text - at) (drop at text) (simp length-drop (omega arith)) in
     let k : lineLen (drop at text) ≡ 48 + 1 =
@@ -122,5 +124,6 @@ piece-ends text at e h k =
     let i : length p - 1 ≡ e - at - 1 = omega arith in
     let j : at + (e - at - 1) ≡ e - 1 = omega arith in
     let g : getD p (length p - 1) 0 ≡ getD text (e - 1) 0 =
-    ap (λ (m : ℕ). getD p m 0) i ∙ getD-take (e - at) (drop at text) (e - at - 1) 0 (omega arith) ∙ getD-drop at text (e - at - 1) 0 ∙ ap (λ (m : ℕ). getD text m 0) j in
+    ap (λ (m : ℕ). getD p m 0) i ∙ getD-take (e - at) (drop at text) (e - at - 1) 0 (omega arith) ∙ getD-drop at text (e - at - 1) 0
+    ∙ ap (λ (m : ℕ). getD text m 0) j in
     ends-last p (omega arith) ∙ ap (λ (x : ℕ). x =? newline) g

@@ -19,7 +19,10 @@ module _ {S O : Type 0} (m : Machine S O) where
 
   -- a piece without a newline but at its end
   unfoldable pub chunkOf : View S → List ℕ → Fed S O
-  chunkOf v p = if ends p then lined (m .line (v .state) (take heldMost (v .held ++ p))) else stop (record { state = v .state; held = take heldMost (v .held ++ p) }) []
+  chunkOf v p =
+      if ends p
+      then lined (m .line (v .state) (take heldMost (v .held ++ p)))
+      else stop (record { state = v .state; held = take heldMost (v .held ++ p) }) []
 
   -- a piece, and then on
   abbrev pub afterChunk : ℕ → Fed S O → List ℕ → Fed S O
@@ -29,7 +32,8 @@ module _ {S O : Type 0} (m : Machine S O) where
   unfolding chunkOf ends
   chunk-push v c [] h = absurd (omega arith)
   chunk-push v c (d ∷ q) h =
-      let e : take heldMost (take heldMost (v .held ++ c ∷ []) ++ d ∷ q) ≡ take heldMost (v .held ++ c ∷ d ∷ q) = cap-append heldMost (v .held ++ c ∷ []) (d ∷ q) ∙ ap (take heldMost) (append-assoc (v .held) (c ∷ []) (d ∷ q)) in
+      let e : take heldMost (take heldMost (v .held ++ c ∷ []) ++ d ∷ q) ≡ take heldMost (v .held ++ c ∷ d ∷ q) =
+      cap-append heldMost (v .held ++ c ∷ []) (d ∷ q) ∙ ap (take heldMost) (append-assoc (v .held) (c ∷ []) (d ∷ q)) in
       rw e
 
   pub go-nil : (room : ℕ) (v : View S) → goOn m room v [] ≡ stop v []
@@ -59,7 +63,8 @@ module _ {S O : Type 0} (m : Machine S O) where
   chunk-last : (room : ℕ) (v : View S) (c : ℕ) → c =? newline ≡ false → feedIn m room v (c ∷ []) ≡ firstOf room v (c ∷ []) (lineLen (c ∷ []))
   chunk-last room v c e =
       in-false m room v c [] e ∙ in-nil m room (push v c)
-      ∙ sym (ap (firstOf room v (c ∷ [])) (len-false c [] e ∙ ap suc len-nil) ∙ ap (λ (k : Fed S O). afterChunk room k []) (chunk-false v c e) ∙ ap (joined []) (go-nil (room - 0) (push v c)))
+      ∙ sym (ap (firstOf room v (c ∷ [])) (len-false c [] e ∙ ap suc len-nil)
+      ∙ ap (λ (k : Fed S O). afterChunk room k []) (chunk-false v c e) ∙ ap (joined []) (go-nil (room - 0) (push v c)))
 
   chunk-more : (room : ℕ) (v : View S) (c : ℕ) (t : List ℕ) → c =? newline ≡ false → 0 < length t
       → feedIn m room (push v c) t ≡ firstOf room (push v c) t (lineLen t) → feedIn m room v (c ∷ t) ≡ firstOf room v (c ∷ t) (lineLen (c ∷ t))
@@ -105,7 +110,8 @@ module _ {S O : Type 0} (m : Machine S O) where
       go true = omega arith
       go false = h
 
-  one-less : (room : ℕ) (v : View S) (c : ℕ) (t : List ℕ) (b : Bool) → c =? newline ≡ b → ((r : ℕ) (w : View S) → Left (length t) (feedIn m r w t)) → Left (length t) (feedIn m room v (c ∷ t))
+  one-less : (room : ℕ) (v : View S) (c : ℕ) (t : List ℕ) (b : Bool) → c =? newline ≡ b → ((r : ℕ) (w : View S) → Left (length t) (feedIn m r w t))
+      → Left (length t) (feedIn m room v (c ∷ t))
   one-less room v c t true e ih = subst (Left (length t)) (sym (in-true m room v c t e)) (go-left _ _ t (ih _ _))
   one-less room v c t false e ih = subst (Left (length t)) (sym (in-false m room v c t e)) (ih room (push v c))
 

@@ -35,8 +35,8 @@ module _ (b : List ℕ) (n : ℕ) (p : List ℕ) (h : Holds b n) (b' : List ℕ)
       let g : n + k ≤ length b = omega (arith, h .few, h .long) in
       let sub : heldMost - n - k ≡ heldMost - (n + k) = omega arith in
       let d : drop (n + k) (paste b n p k) ≡ replicate (heldMost - (n + k)) 0 =
-      drop-paste b n p k (omega (arith, h .few, h .long)) (omega arith) ∙ sym (drop-drop k n b) ∙ ap (drop k) (h .blank) ∙ drop-replicate k (heldMost - n) (omega arith)
-      ∙ ap (λ (i : ℕ). replicate i 0) sub in
+      drop-paste b n p k (omega (arith, h .few, h .long)) (omega arith) ∙ sym (drop-drop k n b) ∙ ap (drop k) (h .blank)
+      ∙ drop-replicate k (heldMost - n) (omega arith) ∙ ap (λ (i : ℕ). replicate i 0) sub in
       record {
         few = omega (arith, h .few);
         long = ap length q ∙ length-paste b n p k g (omega arith) ∙ h .long;
@@ -66,7 +66,8 @@ module _ (s : Play) (b : List ℕ) (n : ℕ) (p before : List ℕ) where
   open-piece e = rw e
 
   module _ (after : List ℕ) (s' : Play) (w : ℕ) where
-    pieced-line : (b' : List ℕ) (c : ℕ) (k : Took Play ℕ) → take c b' ≡ [] → Holds b' c → Lined k before after s' w → Pieced (lined onSlots k) before after s' b' c w
+    pieced-line : (b' : List ℕ) (c : ℕ) (k : Took Play ℕ) → take c b' ≡ [] → Holds b' c → Lined k before after s' w
+        → Pieced (lined onSlots k) before after s' b' c w
     pieced-line b' c k z g q =
         record {
           view = ap (λ (x : List ℕ). record { state = s'; held = x }) z ∙ ap emptied (q .state);
@@ -86,10 +87,12 @@ module _ (s : Play) (b : List ℕ) (n : ℕ) (p before : List ℕ) where
         (subst (λ (x : List ℕ). Lined (lineSlots s x) before after s' w) z q))
 
     -- a whole line, and nothing is held
-    pub piece-quick : Holds b n → n ≡ 0 → ends p ≡ true → Lined (lineSlots s p) before after s' w → Pieced (chunkOf onSlots (heldOf s b n) p) before after s' b n w
+    pub piece-quick : Holds b n → n ≡ 0 → ends p ≡ true → Lined (lineSlots s p) before after s' w
+        → Pieced (chunkOf onSlots (heldOf s b n) p) before after s' b n w
     piece-quick g z e q =
         let y : take n b ≡ [] = ap (λ (k : ℕ). take k b) z in
-        let x : lineSlots s (take heldMost (take n b ++ p)) ≡ lineSlots s p = ap (λ (t : List ℕ). lineSlots s (take heldMost (t ++ p))) y ∙ line-cap s p in
+        let x : lineSlots s (take heldMost (take n b ++ p)) ≡ lineSlots s p =
+        ap (λ (t : List ℕ). lineSlots s (take heldMost (t ++ p))) y ∙ line-cap s p in
         subst (λ (k : Fed Play ℕ). Pieced k before after s' b n w) (sym (ended-piece e))
         (pieced-line b n (lineSlots s (take heldMost (take n b ++ p))) y g (subst (λ (k : Took Play ℕ). Lined k before after s' w) (sym x) q))
 

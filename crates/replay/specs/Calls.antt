@@ -69,7 +69,8 @@ module _ {S O : Type 0} (m : Machine S O) where
       go true = refl
       go false = w
 
-  in-case : (room : ℕ) (v : View S) (c : ℕ) (t : List ℕ) (b : Bool) → c =? newline ≡ b → ((r : ℕ) (w : View S) → Reads w t (feedIn m r w t)) → Reads v (c ∷ t) (feedIn m room v (c ∷ t))
+  in-case : (room : ℕ) (v : View S) (c : ℕ) (t : List ℕ) (b : Bool) → c =? newline ≡ b → ((r : ℕ) (w : View S) → Reads w t (feedIn m r w t))
+      → Reads v (c ∷ t) (feedIn m room v (c ∷ t))
   in-case room v c t true e ih =
       let k : Fed S O = goOn m (room - length (lineAt m v c .out)) (emptied (lineAt m v c .state)) t in
       feed-true v c t e ∙ ap (joined (lineAt m v c .out)) (go-reads _ (emptied (lineAt m v c .state)) t (ih _ _))
@@ -134,7 +135,8 @@ module _ {S O : Type 0} (m : Machine S O) where
       go true e r = absurd (omega (arith, ltb-true room lineRoom e))
       go false e r = h r
 
-  stop-one : (room : ℕ) (v : View S) (c : ℕ) (t : List ℕ) (b : Bool) → c =? newline ≡ b → ((r : ℕ) (w : View S) → Stops r (feedIn m r w t)) → Stops room (feedIn m room v (c ∷ t))
+  stop-one : (room : ℕ) (v : View S) (c : ℕ) (t : List ℕ) (b : Bool) → c =? newline ≡ b → ((r : ℕ) (w : View S) → Stops r (feedIn m r w t))
+      → Stops room (feedIn m room v (c ∷ t))
   stop-one room v c t true e ih =
       let o = lineAt m v c .out in
       let k = goOn m (room - length o) (emptied (lineAt m v c .state)) t in

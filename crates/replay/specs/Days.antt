@@ -47,7 +47,9 @@ opening-writes : (budget : ℕ) (text : List ℕ) → Writes (ended onSlots (fee
 opening-writes budget text = feed-writes budget (freshSlots noOptions) (replicate enoughRoom 0) text (simp length-replicate (omega arith))
 
 all-read : (k : Fed Play ℕ) → k .rest ≡ [] → ended onSlots (andThen onSlots k (k .rest)) ≡ ended onSlots k
-all-read k e = ap (λ (x : List ℕ). ended onSlots (andThen onSlots k x)) e ∙ ap (λ (f : Fed Play ℕ). ended onSlots (joined (k .out) f)) (feed-nil onSlots (k .view)) ∙ done k
+all-read k e =
+    ap (λ (x : List ℕ). ended onSlots (andThen onSlots k x)) e ∙ ap (λ (f : Fed Play ℕ). ended onSlots (joined (k .out) f)) (feed-nil onSlots (k .view))
+    ∙ done k
   where
     done : (k : Fed Play ℕ) → ended onSlots (joined (k .out) (stop (k .view) [])) ≡ ended onSlots k
     done k = rw append-nil
@@ -64,7 +66,8 @@ module _ (room budget : ℕ) (text : List ℕ) where
   unfolding if_then_else_
   told-whole true e h =
       let z : got .rest ≡ [] = no-length (got .rest) (eqb-true (length (got .rest)) 0 (and-both _ _ e .0)) in
-      subst (λ (t : Took Play ℕ). Writes t budget text) (ap (ended onSlots) (some-reads onSlots room (opening budget) text) ∙ all-read got z) (opening-writes budget text)
+      subst (λ (t : Took Play ℕ). Writes t budget text) (ap (ended onSlots) (some-reads onSlots room (opening budget) text) ∙ all-read got z)
+      (opening-writes budget text)
   told-whole false e h = absurd (false≢true h)
 
   pub day-whole : dayIn room budget text .whole ≡ true → Writes (dayIn room budget text .took) budget text
@@ -76,7 +79,8 @@ module _ (room budget : ℕ) (text : List ℕ) where
   written-less =
       let f = feed onSlots (got .view) (got .rest) in
       let t = finish onSlots (f .view .state) (f .view .held) in
-      let e : (got .out ++ f .out) ++ t .out ≡ logOf budget text = ap (λ (k : Fed Play ℕ). ended onSlots k .out) (sym (some-reads onSlots room (opening budget) text)) ∙ opening-writes budget text .log in
+      let e : (got .out ++ f .out) ++ t .out ≡ logOf budget text =
+      ap (λ (k : Fed Play ℕ). ended onSlots k .out) (sym (some-reads onSlots room (opening budget) text)) ∙ opening-writes budget text .log in
       let n : length ((got .out ++ f .out) ++ t .out) ≡ length (got .out ++ f .out) + length (t .out) = length-append (got .out ++ f .out) (t .out) in
       let m : length (got .out ++ f .out) ≡ length (got .out) + length (f .out) = length-append (got .out) (f .out) in
       omega (arith, ap length e, n, m)

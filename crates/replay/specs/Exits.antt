@@ -24,7 +24,8 @@ no-second false b e = refl
 no-first : (a b : Bool) → a ≡ false → (a && b) ≡ false
 no-first a b e = ap (λ (x : Bool). x && b) e
 
-module _ (budget : ℕ) (text o o' : List ℕ) (s₀ s : Session) (n w : ℕ) (begins : Begins budget s₀) (went : Went s₀ text o o' s n w) (long : length o' ≡ length o) where
+module _ (budget : ℕ) (text o o' : List ℕ) (s₀ s : Session) (n w : ℕ) (begins : Begins budget s₀) (went : Went s₀ text o o' s n w)
+    (long : length o' ≡ length o) where
   abbrev got : Fed Play ℕ
   got = goOn onSlots (length o) (opening budget) text
 
@@ -70,10 +71,13 @@ module _ (budget : ℕ) (text o o' : List ℕ) (s₀ s : Session) (n w : ℕ) (b
   -- not read to its end
   pub day-left : (n ≡ length text → ⊥) → Logged (dayIn (length o) budget text) o o' part
   day-left e =
-      partly (no-first (length (got .rest) =? 0) (lineRoom ≤? length o - length (got .out)) (ne-eqb (length (got .rest)) 0 (λ z. e (omega (arith, left, went .within, z)))))
+      partly
+      (no-first (length (got .rest) =? 0) (lineRoom ≤? length o - length (got .out))
+      (ne-eqb (length (got .rest)) 0 (λ z. e (omega (arith, left, went .within, z)))))
 
   -- no room to end it
   pub day-short : length o' - w < lineRoom → Logged (dayIn (length o) budget text) o o' part
   day-short h =
       partly
-      (no-second (length (got .rest) =? 0) (lineRoom ≤? length o - length (got .out)) (lt-leb lineRoom (length o - length (got .out)) (omega (arith, reading .written))))
+      (no-second (length (got .rest) =? 0) (lineRoom ≤? length o - length (got .out))
+      (lt-leb lineRoom (length o - length (got .out)) (omega (arith, reading .written))))

@@ -49,7 +49,9 @@ lay-from s w n (r ∷ rs) l e h =
     let b : length bs ≡ 16 = length-record (serialOf (s + n)) (fieldsOf r) in
     let nk : length k ≡ length l = length-laid l (16 * n) bs (omega arith) in
     let ih = lay-from s w (n + 1) rs k e (omega arith) in
-    let t : take (16 * (n + 1)) k ≡ take (16 * n) l ++ bs = (let z : 16 * (n + 1) ≡ 16 * n + length bs = omega arith in ap (λ (x : ℕ). take x k) z ∙ laid-front l (16 * n) bs (omega arith)) in
+    let t : take (16 * (n + 1)) k ≡ take (16 * n) l ++ bs =
+    (let z : 16 * (n + 1) ≡ 16 * n + length bs = omega arith in
+    ap (λ (x : ℕ). take x k) z ∙ laid-front l (16 * n) bs (omega arith)) in
     let d : drop (16 * (n + 1 + length rs)) k ≡ drop (16 * (n + suc (length rs))) l =
     (let z : 16 * (n + 1 + length rs) ≡ 16 * n + length bs + 16 * length rs = omega arith in
     let y : 16 * n + length bs + 16 * length rs ≡ 16 * (n + suc (length rs)) = omega arith in
@@ -57,7 +59,9 @@ lay-from s w n (r ∷ rs) l e h =
     let v : w + (n + 1) ≡ w + n + 1 = omega arith in
     let rest = entriesBytes (numbered (w + n + 1) rs) in
     let tail = drop (16 * (n + suc (length rs))) l in
-    ih ∙ rw (t, d, v, ← same-serial s w n e) (append-assoc (take (16 * n) l) bs (rest ++ tail) ∙ ap (λ (x : List ℕ). take (16 * n) l ++ x) (sym (append-assoc bs rest tail)))
+    ih
+    ∙ rw (t, d, v, ← same-serial s w n e)
+    (append-assoc (take (16 * n) l) bs (rest ++ tail) ∙ ap (λ (x : List ℕ). take (16 * n) l ++ x) (sym (append-assoc bs rest tail)))
 
 -- an event's records
 pub lay-entries : (s w : ℕ) (rs : List Record) (l : List ℕ) → s ≡ serialOf w → 16 * length rs ≤ length l
@@ -77,6 +81,8 @@ length-lay s n (r ∷ rs) l h =
     length-lay s (n + 1) rs (laid l (16 * n) bs) (omega arith) ∙ nk
 
 -- and printed they are the log's text
-pub printed-lay : (s w : ℕ) (rs : List Record) (l : List ℕ) → s ≡ serialOf w → 16 * length rs ≤ length l → printed (length rs) (lay s 0 rs l) ≡ textOf (numbered w rs)
+pub printed-lay : (s w : ℕ) (rs : List Record) (l : List ℕ) → s ≡ serialOf w → 16 * length rs ≤ length l
+    → printed (length rs) (lay s 0 rs l) ≡ textOf (numbered w rs)
 printed-lay s w rs l e h =
-    rw (lay-entries s w rs l e h) (ap (λ (n : ℕ). printed n (entriesBytes (numbered w rs) ++ drop (16 * length rs) l)) (sym (length-numbered w rs)) ∙ printed-entries (numbered w rs) _)
+    rw (lay-entries s w rs l e h)
+    (ap (λ (n : ℕ). printed n (entriesBytes (numbered w rs) ++ drop (16 * length rs) l)) (sym (length-numbered w rs)) ∙ printed-entries (numbered w rs) _)

@@ -152,17 +152,20 @@ ended-lines used budget (l ∷ ls) = record { log = ended-lines used budget ls .
 abbrev DayGives : Took Lists Entry → Day → Type 0
 DayGives k d = Gives k (d .log) (d .used)
 
-bad-lines : (budget : ℕ) (r : Refusal) (ls : List (List ℕ)) → DayGives (thereafter (badly (start budget) r) (lines onLists (badly (start budget) r .state) ls)) (badOptions r)
+bad-lines : (budget : ℕ) (r : Refusal) (ls : List (List ℕ))
+    → DayGives (thereafter (badly (start budget) r) (lines onLists (badly (start budget) r .state) ls)) (badOptions r)
 bad-lines budget r ls = let h = ended-lines 0 budget ls in record { log = ap (λ (x : List Entry). RefusedLine r 1 ∷ x) (h .log); used = h .used }
 
-made-lines : (budget : ℕ) (x : Making) (ls : List (List ℕ)) → DayGives (thereafter (made (start budget) x) (lines onLists (made (start budget) x .state) ls)) (opened x budget ls)
+made-lines : (budget : ℕ) (x : Making) (ls : List (List ℕ))
+    → DayGives (thereafter (made (start budget) x) (lines onLists (made (start budget) x .state) ls)) (opened x budget ls)
 made-lines budget (NotMade r) ls = bad-lines budget r ls
 made-lines budget (Made p) ls =
     let h = going-lines p 0 budget ls in
     let z : budget - 0 ≡ budget = omega arith in
     record { log = rw z at (h .log); used = h .used ∙ omega arith }
 
-options-lines : (budget : ℕ) (x : Option Options) (ls : List (List ℕ)) → DayGives (thereafter (options (start budget) x) (lines onLists (options (start budget) x .state) ls)) (chosen x budget ls)
+options-lines : (budget : ℕ) (x : Option Options) (ls : List (List ℕ))
+    → DayGives (thereafter (options (start budget) x) (lines onLists (options (start budget) x .state) ls)) (chosen x budget ls)
 options-lines budget none ls = bad-lines budget Malformed ls
 options-lines budget (some o) ls = made-lines budget (make o) ls
 

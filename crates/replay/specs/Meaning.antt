@@ -107,8 +107,9 @@ module _ (s : Play) (t : Lists) (m : Pool) (st : Stands (s .pool) m) (h : Plays 
   world-says w (R.Accepted o) k few =
       let a = k .accepts o refl in
       let n : length (o .records) ≤ roomRecords = subst FewIn (a .outcome) few in
+      let long = length-lay (s .pool .serial) 0 (o .records) (s .scratch) (omega (arith, h .room)) in
       record {
-        plays = record { used = one-more; budget = h .budget; stage = a .pool; room = omega (arith, h .room, ap length (a .out), length-lay (s .pool .serial) 0 (o .records) (s .scratch) (omega (arith, h .room))) };
+        plays = record { used = one-more; budget = h .budget; stage = a .pool; room = omega (arith, h .room, ap length (a .out), long) };
         text = ap (λ (x : Outcome). saidOf x (w .out) (s .used + 2)) (a .outcome) ∙ ap (printed (length (o .records))) (a .out)
             ∙ printed-lay (s .pool .serial) (m .written) (o .records) (s .scratch) (st .alike .serial) (omega (arith, h .room));
       }
@@ -116,7 +117,8 @@ module _ (s : Play) (t : Lists) (m : Pool) (st : Stands (s .pool) m) (h : Plays 
   frame-says : (f : Frame) → Says (P.answered s (call (s .pool) (s .scratch) f)) (L.answered t m (R.step m f enoughRoom))
   frame-says f =
       subst (λ (r : R.Result). Says (P.answered s (call (s .pool) (s .scratch) f)) (L.answered t m r)) (step-room m f (length (s .scratch)) (h .room))
-      (world-says (call (s .pool) (s .scratch) f) (R.step m f (length (s .scratch))) (call-refines (s .pool) m st f (s .scratch)) (call-few (s .pool) m (s .scratch) f st))
+      (world-says (call (s .pool) (s .scratch) f) (R.step m f (length (s .scratch))) (call-refines (s .pool) m st f (s .scratch))
+      (call-few (s .pool) m (s .scratch) f st))
 
 -- ── Any line ───────────────────────────────────────────────────────────────────────────────────────────────────────────────
 
@@ -131,7 +133,9 @@ module _ (s : Play) (t : Lists) (h : Plays s t) where
   unfolding make if_then_else_
   made-says o = go (inRange (withDefaults o)) refl
     where
-      go : (b : Bool) → inRange (withDefaults o) ≡ b → Says (if b then P.ready s (withDefaults o) else P.badly s OptionsOutOfRange) (L.made t (if b then R.Made (fresh (withDefaults o)) else R.NotMade OptionsOutOfRange))
+      go : (b : Bool) → inRange (withDefaults o) ≡ b
+          → Says (if b then P.ready s (withDefaults o) else P.badly s OptionsOutOfRange)
+          (L.made t (if b then R.Made (fresh (withDefaults o)) else R.NotMade OptionsOutOfRange))
       go true e = record { plays = record { used = h .used; budget = h .budget; stage = fresh-stands (withDefaults o) e; room = h .room }; text = text-none }
       go false e = bad-says OptionsOutOfRange
 
@@ -149,7 +153,9 @@ module _ (s : Play) (t : Lists) (h : Plays s t) where
       let d : (s .used <? s .budget) ≡ (t .used <? t .budget) = ap (λ (x : ℕ). x <? s .budget) (h .used) ∙ ap (λ (x : ℕ). t .used <? x) (h .budget) in
       go (s .used <? s .budget) (t .used <? t .budget) d
     where
-      go : (a b : Bool) → a ≡ b → Says (if a then P.answered s (call (s .pool) (s .scratch) (frameOfLine l)) else quiet s) (if b then L.answered t m (R.step m (frameOfLine l) enoughRoom) else quiet t)
+      go : (a b : Bool) → a ≡ b
+          → Says (if a then P.answered s (call (s .pool) (s .scratch) (frameOfLine l)) else quiet s)
+          (if b then L.answered t m (R.step m (frameOfLine l) enoughRoom) else quiet t)
       go true true d = frame-says s t m st h (frameOfLine l)
       go false false d = quiet-says
       go true false d = absurd (true≢false d)
@@ -185,7 +191,11 @@ lines-say s t [] h = last-says s t h
 lines-say s t (l ∷ ls) h =
     let a = line-says s t h l in
     let b = lines-say (lineSlots s l .state) (onLists .line t l .state) ls (a .plays) in
-    record { plays = b .plays; text = ap (λ (x : List ℕ). x ++ lines onSlots (lineSlots s l .state) ls .out) (a .text) ∙ ap (λ (x : List ℕ). textOf (onLists .line t l .out) ++ x) (b .text) ∙ sym (text-append _ _) }
+    record {
+      plays = b .plays;
+      text = ap (λ (x : List ℕ). x ++ lines onSlots (lineSlots s l .state) ls .out) (a .text)
+          ∙ ap (λ (x : List ℕ). textOf (onLists .line t l .out) ++ x) (b .text) ∙ sym (text-append _ _);
+    }
 
 -- ── The theorem ────────────────────────────────────────────────────────────────────────────────────────────────────────────
 
@@ -202,10 +212,15 @@ lines-write budget p l text h =
     record { log = a .text ∙ ap textOf (d .log); used = a .plays .used ∙ d .used }
 
 -- a whole text at once
-pub feed-writes : (budget : ℕ) (p : SlotPool) (l text : List ℕ) → enoughRoom ≤ length l → Writes (ended onSlots (feed onSlots (emptied (begun budget p l)) text)) budget text
-feed-writes budget p l text h = subst (λ (k : Took Play ℕ). Writes k budget text) (sym (text-lines onSlots slots-tame (begun budget p l) text)) (lines-write budget p l text h)
+pub feed-writes : (budget : ℕ) (p : SlotPool) (l text : List ℕ) → enoughRoom ≤ length l
+    → Writes (ended onSlots (feed onSlots (emptied (begun budget p l)) text)) budget text
+feed-writes budget p l text h =
+    subst (λ (k : Took Play ℕ). Writes k budget text) (sym (text-lines onSlots slots-tame (begun budget p l) text)) (lines-write budget p l text h)
 
 -- calls that read it all, whatever each is shown and whatever its room
-pub calls-write : (budget : ℕ) (p : SlotPool) (l text : List ℕ) (cs : List Lend) → enoughRoom ≤ length l → calls onSlots cs (emptied (begun budget p l)) text .rest ≡ []
+pub calls-write : (budget : ℕ) (p : SlotPool) (l text : List ℕ) (cs : List Lend) → enoughRoom ≤ length l
+    → calls onSlots cs (emptied (begun budget p l)) text .rest ≡ []
     → Writes (ended onSlots (calls onSlots cs (emptied (begun budget p l)) text)) budget text
-calls-write budget p l text cs h e = subst (λ (k : Fed Play ℕ). Writes (ended onSlots k) budget text) (calls-whole onSlots cs (emptied (begun budget p l)) text e) (feed-writes budget p l text h)
+calls-write budget p l text cs h e =
+    subst (λ (k : Fed Play ℕ). Writes (ended onSlots k) budget text) (calls-whole onSlots cs (emptied (begun budget p l)) text e)
+    (feed-writes budget p l text h)

@@ -49,8 +49,8 @@ same-count b b' n n' h h' e =
 
 same-held : (b b' : List ℕ) (n n' : ℕ) → Holds b n → Holds b' n' → take n b ≡ take n' b' → b ≡ b'
 same-held b b' n n' h h' e =
-    sym (take-append-drop n b) ∙ ap (λ (x : List ℕ). x ++ drop n b) e
-    ∙ ap (λ (x : List ℕ). take n' b' ++ x) (h .blank ∙ ap (λ (i : ℕ). replicate (heldMost - i) 0) (same-count b b' n n' h h' e) ∙ sym (h' .blank)) ∙ take-append-drop n' b'
+    let d : drop n b ≡ drop n' b' = h .blank ∙ ap (λ (i : ℕ). replicate (heldMost - i) 0) (same-count b b' n n' h h' e) ∙ sym (h' .blank) in
+    sym (take-append-drop n b) ∙ ap (λ (x : List ℕ). x ++ drop n b) e ∙ ap (λ (x : List ℕ). take n' b' ++ x) d ∙ take-append-drop n' b'
 
 same-pace : (r r' : Pace) → r .phase ≡ r' .phase → r .used ≡ r' .used → r .budget ≡ r' .budget → r ≡ r'
 same-pace r r' e f g =
@@ -73,8 +73,8 @@ pub record Same (r r' : Run) (p p' : SlotPool) (l l' a a' : List ℕ) (n n' w w'
   pub read : n ≡ n'
   pub written : w ≡ w'
 
-pub read-once : (k : Fed Play ℕ) (text b a a' : List ℕ) (r r' : Run) (p p' : SlotPool) (l l' : List ℕ) (n n' w w' : ℕ) → Read k text b a r p l n w → Read k text b a' r' p' l' n' w'
-    → Same r r' p p' l l' a a' n n' w w'
+pub read-once : (k : Fed Play ℕ) (text b a a' : List ℕ) (r r' : Run) (p p' : SlotPool) (l l' : List ℕ) (n n' w w' : ℕ) → Read k text b a r p l n w
+    → Read k text b a' r' p' l' n' w' → Same r r' p p' l l' a a' n n' w w'
 read-once k text b a a' r r' p p' l l' n n' w w' f g =
     let v : viewOf r p l ≡ viewOf r' p' l' = f .view ∙ sym (g .view) in
     let h : take (r .count) (r .held) ≡ take (r' .count) (r' .held) = ap (λ (x : View Play). x .held) v in
@@ -82,9 +82,12 @@ read-once k text b a a' r r' p p' l l' n n' w w' f g =
     let y = g .kept .holds in
     let e = f .written ∙ sym (g .written) in
     let d : drop n text ≡ drop n' text = f .rest ∙ sym (g .rest) in
+    let pace =
+    same-pace (r .pace) (r' .pace) (ap (λ (z : View Play). z .state .phase) v) (ap (λ (z : View Play). z .state .used) v)
+    (ap (λ (z : View Play). z .state .budget) v) in
     record {
       run =
-          same-run r r' (same-pace (r .pace) (r' .pace) (ap (λ (z : View Play). z .state .phase) v) (ap (λ (z : View Play). z .state .used) v) (ap (λ (z : View Play). z .state .budget) v))
+          same-run r r' pace
           (same-held (r .held) (r' .held) (r .count) (r' .count) x y h) (same-count (r .held) (r' .held) (r .count) (r' .count) x y h);
       pool = ap (λ (z : View Play). z .state .pool) v;
       scratch = ap (λ (z : View Play). z .state .scratch) v;

@@ -85,7 +85,8 @@ module _ {S O : Type 0} (m : Machine S O) (tame : Tame m) where
   joined-ended : (k : Took S O) (f : Fed S O) → ended m (joined (k .out) f) ≡ thereafter k (ended m f)
   joined-ended k f = rw append-assoc
 
-  whole-case : (s : S) (h : List ℕ) (c : ℕ) (t : List ℕ) (b : Bool) → c =? newline ≡ b → ((q : S) (g : List ℕ) → ended m (feed m (capped q g) t) ≡ lines m q (onto g (linesOf t)))
+  whole-case : (s : S) (h : List ℕ) (c : ℕ) (t : List ℕ) (b : Bool) → c =? newline ≡ b
+      → ((q : S) (g : List ℕ) → ended m (feed m (capped q g) t) ≡ lines m q (onto g (linesOf t)))
       → ended m (feed m (capped s h) (c ∷ t)) ≡ lines m s (onto h (linesOf (c ∷ t)))
   whole-case s h c t true e ih =
       let l = h ++ c ∷ [] in
@@ -94,7 +95,8 @@ module _ {S O : Type 0} (m : Machine S O) (tame : Tame m) where
       ∙ ap (λ (x : Took S O). ended m (joined (x .out) (feed m (emptied (x .state)) t))) (ap (m .line s) (cap-append heldMost h (c ∷ [])) ∙ tame .cap s l)
       ∙ joined-ended k (feed m (emptied (k .state)) t)
       ∙ ap (thereafter k) (ih (k .state) [])
-      ∙ sym (ap (λ (x : List (List ℕ)). lines m s (onto h x)) (lines-true c t e) ∙ ap (lines m s) (onto-line h (c ∷ []) (linesOf t)) ∙ lines-more s l (linesOf t))
+      ∙ sym (ap (λ (x : List (List ℕ)). lines m s (onto h x)) (lines-true c t e) ∙ ap (lines m s) (onto-line h (c ∷ []) (linesOf t))
+      ∙ lines-more s l (linesOf t))
   whole-case s h c t false e ih =
       ap (ended m) (feed-false m (capped s h) c t e)
       ∙ ap (λ (x : List ℕ). ended m (feed m (record { state = s; held = x }) t)) (cap-append heldMost h (c ∷ []))

@@ -25,7 +25,8 @@ finish-some s (c ∷ h) g = refl
 
 module _ (r : Run) (p : SlotPool) (sc b a : List ℕ) (k : Kept r p) (n : ℕ) where
   -- nothing is held
-  pub end-none : (q : Pace) → r .count ≡ 0 → Ends (r .pace) b a q n → Lined (finish onSlots (playOf (r .pace) p sc) (take (r .count) (r .held))) b a (playOf q p sc) n
+  pub end-none : (q : Pace) → r .count ≡ 0 → Ends (r .pace) b a q n
+      → Lined (finish onSlots (playOf (r .pace) p sc) (take (r .count) (r .held))) b a (playOf q p sc) n
   end-none q e h =
       subst (λ (t : Took Play ℕ). Lined t b a (playOf q p sc) n) (sym (finish-none (playOf (r .pace) p sc) (r .held) (r .count) e)) (h .lined p sc (k .able))
 

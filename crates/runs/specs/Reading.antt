@@ -41,19 +41,22 @@ pub record Next (text o : List ℕ) (at w e : ℕ) : Type 0 where
   pub further : at < e
   pub within : e ≤ length text
 
-pub next : (text o : List ℕ) (at w e : ℕ) → at < length text → (lineRoom ≤? length o - w) ≡ true → e ≡ at + lineLen (drop at text) → e ≤ length text → Next text o at w e
+pub next : (text o : List ℕ) (at w e : ℕ) → at < length text → (lineRoom ≤? length o - w) ≡ true → e ≡ at + lineLen (drop at text) → e ≤ length text
+    → Next text o at w e
 next text o at w e h r q k =
     let pos : 0 < lineLen (drop at text) = len-positive (drop at text) (simp length-drop (omega arith)) in
     record { room = leb-true lineRoom (length o - w) r; end = q; further = omega arith; within = k }
 
-pub doing-start : (text o : List ℕ) (r : Run) (p : SlotPool) (sc : List ℕ) → Kept r p → Doing text o (viewOf r p sc) (playOf (r .pace) p sc) (r .held) (r .count) 0 0 o
+pub doing-start : (text o : List ℕ) (r : Run) (p : SlotPool) (sc : List ℕ) → Kept r p
+    → Doing text o (viewOf r p sc) (playOf (r .pace) p sc) (r .held) (r .count) 0 0 o
 doing-start text o r p sc k =
     let z : length o - 0 ≡ length o = omega arith in
     record { within = omega arith; holds = k .holds; able = k .able; done = []; wrote = refl; fits = omega arith; long = refl; laid = refl; left = rw z }
 
 module _ (text o₀ : List ℕ) (v₀ : View Play) (s : Play) (b : List ℕ) (c at w : ℕ) (o : List ℕ) (d : Doing text o₀ v₀ s b c at w o) where
   module _ (e : ℕ) (x : Next text o at w e) (y : List ℕ) (s' : Play) (n : ℕ) where
-    pub doing-step : (b' : List ℕ) (c' : ℕ) → Pieced (chunkOf onSlots (heldOf s b c) (take (e - at) (drop at text))) (take (length o - w) (drop w o)) y s' b' c' n
+    pub doing-step : (b' : List ℕ) (c' : ℕ)
+        → Pieced (chunkOf onSlots (heldOf s b c) (take (e - at) (drop at text))) (take (length o - w) (drop w o)) y s' b' c' n
         → Doing text o₀ v₀ s' b' c' e (w + n) (take w o ++ (y ++ drop (length o - w) (drop w o)))
     doing-step b' c' p =
         let v : View Play = heldOf s b c in
@@ -84,14 +87,17 @@ module _ (text o₀ : List ℕ) (v₀ : View Play) (s : Play) (b : List ℕ) (c 
         }
 
     -- a whole line, and nothing is held
-    pub doing-quick : c ≡ 0 → (getD text (e - 1) 0 =? newline) ≡ true → Lined (lineSlots s (take (e - at) (drop at text))) (take (length o - w) (drop w o)) y s' n
+    pub doing-quick : c ≡ 0 → (getD text (e - 1) 0 =? newline) ≡ true
+        → Lined (lineSlots s (take (e - at) (drop at text))) (take (length o - w) (drop w o)) y s' n
         → Doing text o₀ v₀ s' b c e (w + n) (take w o ++ (y ++ drop (length o - w) (drop w o)))
     doing-quick z t q =
-        doing-step b c
-        (piece-quick s b c (take (e - at) (drop at text)) (take (length o - w) (drop w o)) y s' n (d .holds) z (piece-ends text at e (x .further) (x .within) ∙ t) q)
+        let ended = piece-ends text at e (x .further) (x .within) ∙ t in
+        doing-step b c (piece-quick s b c (take (e - at) (drop at text)) (take (length o - w) (drop w o)) y s' n (d .holds) z ended q)
 
-module _ (text o₀ : List ℕ) (v₀ : View Play) (r : Run) (p : SlotPool) (sc : List ℕ) (at w : ℕ) (o : List ℕ) (d : Doing text o₀ v₀ (playOf (r .pace) p sc) (r .held) (r .count) at w o) where
-  doing-end : goOn onSlots (length o₀ - w) (viewOf r p sc) (drop at text) ≡ stop (viewOf r p sc) (drop at text) → Read (goOn onSlots (length o₀) v₀ text) text o₀ o r p sc at w
+module _ (text o₀ : List ℕ) (v₀ : View Play) (r : Run) (p : SlotPool) (sc : List ℕ) (at w : ℕ) (o : List ℕ)
+    (d : Doing text o₀ v₀ (playOf (r .pace) p sc) (r .held) (r .count) at w o) where
+  doing-end : goOn onSlots (length o₀ - w) (viewOf r p sc) (drop at text) ≡ stop (viewOf r p sc) (drop at text)
+      → Read (goOn onSlots (length o₀) v₀ text) text o₀ o r p sc at w
   doing-end z =
       let e : goOn onSlots (length o₀) v₀ text ≡ joined (d .done) (stop (viewOf r p sc) (drop at text)) = d .left ∙ ap (joined (d .done)) z in
       let n : d .done ≡ d .done ++ [] = sym (append-nil (d .done)) in

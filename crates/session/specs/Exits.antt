@@ -20,10 +20,12 @@ use Rattle.session.specs.declared.Session.{Session}
 use Rattle.session.specs.Code.{poolIn, viewIn, Ready, begun, opening, Begins, Went, Finishes}
 
 -- of blank columns
-pub begins : (budget : ℕ) (s : Session) → s .run ≡ beginRun budget → s .head ≡ freshHead noOptions → poolIn s ≡ overBlank (s .head) → s .scratch ≡ replicate enoughRoom 0 → Begins budget s
+pub begins : (budget : ℕ) (s : Session) → s .run ≡ beginRun budget → s .head ≡ freshHead noOptions → poolIn s ≡ overBlank (s .head)
+    → s .scratch ≡ replicate enoughRoom 0 → Begins budget s
 begins budget s e g p l =
     record {
-      view = ap (λ (x : Run). viewOf x (poolIn s) (s .scratch)) e ∙ ap (λ (x : SlotPool). emptied (begun budget x (s .scratch))) (p ∙ ap overBlank g ∙ fresh-parts noOptions)
+      view = ap (λ (x : Run). viewOf x (poolIn s) (s .scratch)) e
+          ∙ ap (λ (x : SlotPool). emptied (begun budget x (s .scratch))) (p ∙ ap overBlank g ∙ fresh-parts noOptions)
           ∙ ap (λ (x : List ℕ). emptied (begun budget (freshSlots noOptions) x)) l;
       ready = record { kept = begin-kept budget (s .run) (poolIn s) e; long = ap length l ∙ length-replicate {A = ℕ} enoughRoom 0 };
     }

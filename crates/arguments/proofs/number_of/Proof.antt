@@ -26,7 +26,8 @@ abbrev byte : tie.At-loop Inv-loop μ-loop → ℕ
 byte h = getD (word h) (h .loop .i) 0
 
 -- a byte that is no digit
-broken : (h : tie.At-loop Inv-loop μ-loop) → h .loop .i < length (word h) → digit? (h .loop .v) (byte h) ≡ false → record { good = false; value = 0 } ≡ numberOf (decimal (word h))
+broken : (h : tie.At-loop Inv-loop μ-loop) → h .loop .i < length (word h) → digit? (h .loop .v) (byte h) ≡ false
+    → record { good = false; value = 0 } ≡ numberOf (decimal (word h))
 broken h k e = no-number (word h) (h .loop .v) (h .loop .i) (h .loop .inv .1) k e
 
 loop-holds : tie.Need-loop-holds Inv-loop μ-loop
@@ -36,10 +37,14 @@ shared-slice-read-c : tie.Need-shared-slice-read-c Inv-loop μ-loop
 shared-slice-read-c c = search needs
 
 returns : tie.Need-returns Inv-loop μ-loop
-returns c = let h : tie.At-loop Inv-loop μ-loop = c .before .before .before in broken h (c .before .before .loop-test .taken) (too-low (h .loop .v) (byte h) (c .if1 .taken))
+returns c =
+    let h : tie.At-loop Inv-loop μ-loop = c .before .before .before in
+    broken h (c .before .before .loop-test .taken) (too-low (h .loop .v) (byte h) (c .if1 .taken))
 
 returns-2 : tie.Need-returns-2 Inv-loop μ-loop
-returns-2 c = let h : tie.At-loop Inv-loop μ-loop = c .before .before .before .before in broken h (c .before .before .before .loop-test .taken) (too-high (h .loop .v) (byte h) (c .if2 .taken))
+returns-2 c =
+    let h : tie.At-loop Inv-loop μ-loop = c .before .before .before .before in
+    broken h (c .before .before .before .loop-test .taken) (too-high (h .loop .v) (byte h) (c .if2 .taken))
 
 returns-3 : tie.Need-returns-3 Inv-loop μ-loop
 returns-3 c =
@@ -79,7 +84,9 @@ returns-5 : tie.Need-returns-5 Inv-loop μ-loop
 returns-5 c = nothing (word (c .before .before)) (c .if5 .taken)
 
 returns-6 : tie.Need-returns-6 Inv-loop μ-loop
-returns-6 c = let h : tie.At-loop Inv-loop μ-loop = c .before .before in a-number (word h) (h .loop .v) (h .loop .i) (h .loop .inv .1) (c .before .loop-test .left) (c .if5 .left)
+returns-6 c =
+    let h : tie.At-loop Inv-loop μ-loop = c .before .before in
+    a-number (word h) (h .loop .v) (h .loop .i) (h .loop .inv .1) (c .before .loop-test .left) (c .if5 .left)
 
 pub number-of-spec : {M : Type 1} → statement M
 number-of-spec =

@@ -1,4 +1,5 @@
 use mathlib.Core.Path.{_≡_, sym, _∙_}
+use mathlib.Core.Bool.{false}
 use denote.Ref.{now}
 use Rattle.arguments.specs.Asked.{budgetWord, usedWord, same}
 use Rattle.arguments.specs.Laws.{same-word, asked-number, asked-budget, asked-used, asked-file, asked-bad}
@@ -16,6 +17,9 @@ start d = d .before .before .before .before .before .before .before
 -- whether it is one of the two words
 is-budget : (d : tie.After-same) → d .same .result ≡ same (now (d .before .before .before .before .args .word)) budgetWord
 is-budget d = same-word (now (d .before .before .before .before .args .word)) budgetWord (d .same .result) (d .same .ensures)
+
+no-budget : (d : tie.After-same2) → false ≡ same (now (start d .args .word)) budgetWord
+no-budget d = sym (d .before .before .if2 .left) ∙ is-budget (d .before .before .before)
 
 is-used : (d : tie.After-same2) → d .same2 .result ≡ same (now (start d .args .word)) usedWord
 is-used d = same-word (now (start d .args .word)) usedWord (d .same2 .result) (d .same2 .ensures)
@@ -50,19 +54,19 @@ returns-3 : tie.Need-returns-3
 returns-3 c =
     let d : tie.After-same2 = c .before in
     let a = start d .args in
-    asked-used (a .a) (a .i) (now (a .word)) (d .before .before .before .before .before .if1 .left) (sym (d .before .before .if2 .left) ∙ is-budget (d .before .before .before)) (sym (c .if3 .taken) ∙ is-used d)
+    asked-used (a .a) (a .i) (now (a .word)) (d .before .before .before .before .before .if1 .left) (no-budget d) (sym (c .if3 .taken) ∙ is-used d)
 
 returns-4 : tie.Need-returns-4
 returns-4 c =
     let d : tie.After-same2 = c .before .before .before in
     let a = start d .args in
-    asked-file (a .a) (a .i) (now (a .word)) (d .before .before .before .before .before .if1 .left) (sym (d .before .before .if2 .left) ∙ is-budget (d .before .before .before)) (sym (c .before .before .if3 .left) ∙ is-used d) (c .if4 .taken)
+    asked-file (a .a) (a .i) (now (a .word)) (d .before .before .before .before .before .if1 .left) (no-budget d) (sym (c .before .before .if3 .left) ∙ is-used d) (c .if4 .taken)
 
 returns-5 : tie.Need-returns-5
 returns-5 c =
     let d : tie.After-same2 = c .before .before .before in
     let a = start d .args in
-    asked-bad (a .a) (a .i) (now (a .word)) (d .before .before .before .before .before .if1 .left) (sym (d .before .before .if2 .left) ∙ is-budget (d .before .before .before)) (sym (c .before .before .if3 .left) ∙ is-used d) (c .if4 .left)
+    asked-bad (a .a) (a .i) (now (a .word)) (d .before .before .before .before .before .if1 .left) (no-budget d) (sym (c .before .before .if3 .left) ∙ is-used d) (c .if4 .left)
 
 pub take-word-spec : {M : Type 1} → statement M
 take-word-spec =

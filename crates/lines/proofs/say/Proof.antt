@@ -15,6 +15,9 @@ use Rattle.printing.proofs.print_refusal.Reads as print-refusal-reads
 enum-known-answer : tie.Need-enum-known-answer
 enum-known-answer c = search needs
 
+abbrev known : tie.After-line-number → tie.Start
+known d = d .before .before .before .before .before .before
+
 line-number-requires : tie.Need-line-number-requires
 line-number-requires c κs = search needs
 
@@ -29,8 +32,9 @@ cast-n c = search needs
 
 print-records-requires : tie.Need-print-records-requires
 print-records-requires c κs =
-    let n = c .before .before .answer2 .given .0 .0 in
-    let few : n ≤ roomRecords = few-records (c .before .before .before .before .before .before .args .answer) n (c .before .before .answer2 .given .1) (c .before .before .before .before .before .before .pre .0) in
+    let s : tie.Start = c .before .before .before .before .before .before in
+    let k = c .before .before .answer2 .given in
+    let few : k .0 .0 ≤ roomRecords = few-records (s .args .answer) (k .0 .0) (k .1) (s .pre .0) in
     (omega arith, omega arith)
 
 mul-result : tie.Need-mul-result
@@ -41,19 +45,22 @@ same-length c = search needs
 
 returns : tie.Need-returns
 returns c =
-    let a = c .before .before .before .before .before .before .before .before .before .before .args in
-    let k = c .before .before .before .before .before .before .answer .given in
-    said-refused (a .answer) (now (a .scratch)) (a .used + 2) (now (a .out)) _ (k .0 .0) (c .before .before .before .before .line-number .result) (k .1)
-    (c .before .before .before .before .line-number .ensures) (c .before .before .print-refusal .ensures)
+    let d : tie.After-line-number = c .before .before .before .before in
+    let a = known d .args in
+    let k = d .before .before .answer .given in
+    said-refused (a .answer) (now (a .scratch)) (a .used + 2) (now (a .out)) (c .before .before .print-refusal .last .1 .1 .0) (k .0 .0) (d .line-number .result)
+    (k .1) (d .line-number .ensures) (c .before .before .print-refusal .ensures)
 
 same-length-2 : tie.Need-same-length-2
 same-length-2 c = search needs
 
 returns-2 : tie.Need-returns-2
 returns-2 c =
-    let s = c .before .before .before .before .before .before .before .before .before in
-    let k = c .before .before .before .before .before .answer2 .given in
-    said-records (s .args .answer) (now (s .args .scratch)) (s .args .used + 2) (now (s .args .out)) _ (k .0 .0) (k .1)
+    let d : tie.After-answer2 = c .before .before .before .before .before in
+    let s : tie.Start = d .before .before .before .before in
+    let a = s .args in
+    let k = d .answer2 .given in
+    said-records (a .answer) (now (a .scratch)) (a .used + 2) (now (a .out)) (c .before .before .print-records .last .1 .1 .0) (k .0 .0) (k .1)
     (s .pre .0) (s .pre .1) (c .before .before .print-records .ensures)
 
 pub say-spec : {M : Type 1} → statement M

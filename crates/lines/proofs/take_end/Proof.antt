@@ -24,9 +24,10 @@ same-length c = search needs
 
 returns : tie.Need-returns
 returns c =
-    let a = c .before .before .before .before .before .before .before .args in
+    let d : tie.After-enum-told = c .before .before .before .before in
+    let a = d .before .before .before .args in
     let k = c .before .before .bad-options in
-    end-first (a .pace) (now (a .out)) (k .last .1 .1 .0) (k .result) (c .before .before .before .before .enum-told .given .1) (k .ensures .0) (k .ensures .1)
+    end-first (a .pace) (now (a .out)) (k .last .1 .1 .0) (k .result) (d .enum-told .given .1) (k .ensures .0) (k .ensures .1)
 
 returns-2 : tie.Need-returns-2
 returns-2 c = end-going (c .before .before .before .args .pace) (now (c .before .before .before .args .out)) (c .enum-told2 .given .1)

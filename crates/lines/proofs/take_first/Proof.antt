@@ -62,10 +62,11 @@ bad-options-requires-2 c κs = search needs
 
 returns : tie.Need-returns
 returns c =
-    let d : tie.After-in-range = c .before .before .before .before .before .before in
+    let t : tie.Then1 = c .before .before .before .before .before in
+    let d : tie.After-in-range = t .before in
     let a = start d .args in
     let o = withDefaults (d .before .before .before .p .given .0 .0) in
-    let f = sym (c .before .before .before .before .before .if1 .taken) ∙ told d in
+    let f = sym (t .if1 .taken) ∙ told d in
     subst (λ (h : Head). Opens (a .pace) (pool (start d)) (optionsOfLine (now (a .line))) (now (a .out)) (now (a .out)) (goingPace (a .pace)) (overBlank h) 0)
     (sym (c .fresh-head .ensures ∙ ap freshHead (d .before .with-defaults .ensures)))
     (opens-made (a .pace) (pool (start d)) (optionsOfLine (now (a .line))) (now (a .out)) o (λ s. options-made s (read d) f) (sym f))
@@ -75,10 +76,11 @@ same-length c = search needs
 
 returns-2 : tie.Need-returns-2
 returns-2 c =
-    let d : tie.After-in-range = c .before .before .before .before .before in
+    let t : tie.Else1 = c .before .before .before .before in
+    let d : tie.After-in-range = t .before in
     let a = start d .args in
     let k = c .before .before .bad-options in
-    let f = sym (c .before .before .before .before .if1 .left) ∙ told d in
+    let f = sym (t .if1 .left) ∙ told d in
     opens-bad (a .pace) (pool (start d)) (optionsOfLine (now (a .line))) (now (a .out)) (k .last .1 .1 .0) (k .result) OptionsOutOfRange
     (λ s. options-out s (read d) f) (k .ensures .0) (k .ensures .1)
 
@@ -87,10 +89,11 @@ same-length-2 c = search needs
 
 returns-3 : tie.Need-returns-3
 returns-3 c =
-    let s : tie.Start = c .before .before .before .before .before .before .before .before .before in
+    let d : tie.After-enum-told = c .before .before .before .before in
+    let s : tie.Start = d .before .before .before .before .before in
     let a = s .args in
     let k = c .before .before .bad-options2 in
-    let e = sym (c .before .before .before .before .before .before .line-options .ensures) ∙ ap optionsIn (c .before .before .before .before .enum-told .given .1) in
+    let e = sym (d .before .before .line-options .ensures) ∙ ap optionsIn (d .enum-told .given .1) in
     opens-bad (a .pace) (pool s) (optionsOfLine (now (a .line))) (now (a .out)) (k .last .1 .1 .0) (k .result) Malformed
     (λ s. options-malformed s e) (k .ensures .0) (k .ensures .1)
 

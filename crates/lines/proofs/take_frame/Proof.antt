@@ -14,8 +14,11 @@ use Rattle.lines.proofs.counted.Reads as counted-reads
 use Rattle.lines.proofs.say.Reads as say-reads
 use Rattle.reading.proofs.line_frame.Reads as line-frame-reads
 
+abbrev read : tie.After-call → tie.After-line-frame
+read d = d .before .before .before .before .before .before
+
 abbrev start : tie.After-call → tie.Start
-start d = d .before .before .before .before .before .before .before .before .before .before
+start d = read d .before .before .before .before
 
 -- the pool before the call, and the pool and the scratch that it leaves
 abbrev pool : tie.After-call → SlotPool
@@ -45,7 +48,8 @@ say-requires : tie.Need-say-requires
 say-requires c κs =
     let d : tie.After-call = called c in
     let s : tie.Start = start d in
-    let fits = call-fits (pool d) (left d) (now (s .args .scratch)) (records d) (d .before .before .before .before .before .before .line-frame .result) (d .call .result .outcome) (d .call .ensures) (s .pre .1) in
+    let fits =
+    call-fits (pool d) (left d) (now (s .args .scratch)) (records d) (read d .line-frame .result) (d .call .result .outcome) (d .call .ensures) (s .pre .1) in
     (fits, search needs, search needs)
 
 same-length : tie.Need-same-length
@@ -58,10 +62,12 @@ returns : tie.Need-returns
 returns c =
     let d : tie.After-call = called (c .before .before .before) in
     let s : tie.Start = start d in
+    let a = s .args in
+    let f = read d .line-frame in
+    let n = c .before .before .before .before .before .counted in
     let k = c .before .before .say in
-    frame-said (pool d) (left d) (now (s .args .scratch)) (records d) (d .before .before .before .before .before .before .line-frame .result) (d .call .result .outcome) (d .call .ensures) (s .pre .1)
-    (frameOfLine (now (s .args .line))) (s .args .pace) (c .before .before .before .before .before .counted .result) (now (s .args .out)) (k .last .1 .1 .1 .0) (k .result)
-    (d .before .before .before .before .before .before .line-frame .ensures) (c .before .before .before .before .before .counted .ensures) (k .ensures)
+    frame-said (pool d) (left d) (now (a .scratch)) (records d) (f .result) (d .call .result .outcome) (d .call .ensures) (s .pre .1)
+    (frameOfLine (now (a .line))) (a .pace) (n .result) (now (a .out)) (k .last .1 .1 .1 .0) (k .result) (f .ensures) (n .ensures) (k .ensures)
 
 pub take-frame-spec : {M : Type 1} → statement M
 take-frame-spec =

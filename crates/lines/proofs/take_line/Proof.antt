@@ -22,6 +22,9 @@ opened d = let k = d .take-first .last .1 in poolOf (d .take-first .result .head
 abbrev left : tie.After-take-frame → SlotPool
 left d = let k = d .take-frame .last .1 in poolOf (d .take-frame .result .head) (k .1 .0) (k .1 .1 .0) (k .1 .1 .1 .0) (k .1 .1 .1 .1 .0)
 
+abbrev first : tie.After-take-first → tie.After-enum-told
+first d = d .before .before .before .before .before .before
+
 abbrev entered : tie.After-enum-told2 → tie.Start
 entered d = d .before .before .before .before .before
 
@@ -52,12 +55,12 @@ same-length c = search needs
 returns : tie.Need-returns
 returns c =
     let d : tie.After-take-first = c .before .before in
-    let e : tie.After-enum-told = d .before .before .before .before .before .before in
+    let e : tie.After-enum-told = first d in
     let s : tie.Start = e .before .before .before .before .before in
     let a = s .args in
     let k = d .take-first in
-    line-first (a .pace) (pool s) (now (a .scratch)) (now (a .line)) (now (a .out)) (k .last .1 .1 .1 .1 .1 .1 .1 .0) (k .result .pace) (opened d) (k .result .written)
-    (e .enum-told .given .1) (k .ensures)
+    line-first (a .pace) (pool s) (now (a .scratch)) (now (a .line)) (now (a .out)) (k .last .1 .1 .1 .1 .1 .1 .1 .0) (k .result .pace) (opened d)
+    (k .result .written) (e .enum-told .given .1) (k .ensures)
 
 same-length-2 : tie.Need-same-length-2
 same-length-2 c = search needs
@@ -72,8 +75,8 @@ returns-2 c =
     let s : tie.Start = entered (t .before .before) in
     let a = s .args in
     let k = d .take-frame in
-    line-going (a .pace) (pool s) (now (a .scratch)) (now (a .line)) (now (a .out)) (k .last .1 .1 .1 .1 .1 .1 .1 .1 .0) (k .result .pace) (left d) (k .result .written)
-    (k .last .1 .1 .1 .1 .1 .1 .1 .0) (t .before .before .enum-told2 .given .1) (t .if1 .taken) (k .ensures)
+    line-going (a .pace) (pool s) (now (a .scratch)) (now (a .line)) (now (a .out)) (k .last .1 .1 .1 .1 .1 .1 .1 .1 .0) (k .result .pace) (left d)
+    (k .result .written) (k .last .1 .1 .1 .1 .1 .1 .1 .0) (t .before .before .enum-told2 .given .1) (t .if1 .taken) (k .ensures)
 
 returns-3 : tie.Need-returns-3
 returns-3 c =

@@ -35,9 +35,10 @@ add-result c = search needs
 
 returns : tie.Need-returns
 returns c =
-    let s : tie.Start = c .before .before .before .before .before .before .before in
+    let t : tie.Then1 = c .before .before .before .before .before in
+    let a = t .before .before .args in
     let clean = sym (c .before .is-clean .ensures) ∙ c .if3 .taken in
-    (whole-line (s .args .text .now) (s .args .at) (c .before .before .before .before .before .if1 .taken) (c .before .before .before .if2 .taken) clean, omega arith)
+    (whole-line (a .text .now) (a .at) (t .if1 .taken) (c .before .before .before .if2 .taken) clean, omega arith)
 
 line-end-from-requires : tie.Need-line-end-from-requires
 line-end-from-requires c κs = search needs

@@ -39,6 +39,9 @@ holds d =
 abbrev held : tie.After-take-line-arg4 → tie.After-hold
 held c = c .before .before .before .before .before .before .before
 
+abbrev lined : tie.After-g → tie.After-take-line
+lined c = c .before .before .before .before .before .before
+
 hold-requires : tie.Need-hold-requires
 hold-requires c κs = search needs
 
@@ -69,24 +72,27 @@ same-length-2 c = search needs
 
 returns : tie.Need-returns
 returns c =
-    let t : tie.After-take-line = c .before .before .before .before .before .before in
+    let t : tie.After-take-line = lined c in
     let f : tie.After-take-line-arg4 = t .before .before .before .before in
     let d : tie.After-hold = held f in
     let s : tie.Start = start d in
-    let p = now (s .args .piece) in
+    let a = s .args in
+    let p = now (a .piece) in
     let h = d .hold in
-    piece-line (play s) (s .args .held) (s .args .count) p (now (s .args .out)) (t .take-line .last .1 .1 .1 .1 .1 .1 .1 .1 .0) (left t) (t .take-line .result .written)
+    let k = t .take-line in
+    piece-line (play s) (a .held) (a .count) p (now (a .out)) (k .last .1 .1 .1 .1 .1 .1 .1 .1 .0) (left t) (k .result .written)
     (take (h .result .count) (h .result .bytes)) (ends-last p (s .pre .2) ∙ eq-eqb _ _ (f .before .before .before .before .if1 .taken))
-    (held-take (s .args .held) (s .args .count) p (s .pre .0) (h .result .bytes) (h .result .count) (h .ensures .0) (h .ensures .1)) (t .take-line .ensures)
+    (held-take (a .held) (a .count) p (s .pre .0) (h .result .bytes) (h .result .count) (h .ensures .0) (h .ensures .1)) (k .ensures)
 
 returns-2 : tie.Need-returns-2
 returns-2 c =
     let d : tie.After-hold = c .before .before .before in
     let s : tie.Start = start d in
-    let p = now (s .args .piece) in
+    let a = s .args in
+    let p = now (a .piece) in
     let h = d .hold in
-    piece-held (play s) (s .args .held) (s .args .count) p (now (s .args .out)) (h .result .bytes) (h .result .count) (ends-last p (s .pre .2) ∙ ne-eqb _ _ (c .if1 .left))
-    (held-take (s .args .held) (s .args .count) p (s .pre .0) (h .result .bytes) (h .result .count) (h .ensures .0) (h .ensures .1)) (holds d) (s .pre .1)
+    piece-held (play s) (a .held) (a .count) p (now (a .out)) (h .result .bytes) (h .result .count) (ends-last p (s .pre .2) ∙ ne-eqb _ _ (c .if1 .left))
+    (held-take (a .held) (a .count) p (s .pre .0) (h .result .bytes) (h .result .count) (h .ensures .0) (h .ensures .1)) (holds d) (s .pre .1)
 
 pub take-piece-spec : {M : Type 1} → statement M
 take-piece-spec =

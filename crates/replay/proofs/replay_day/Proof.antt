@@ -40,8 +40,9 @@ finish-requires c κs = search needs
 
 add-t19 : tie.Need-add-t19
 add-t19 c =
-    let d : tie.After-go-on = gone (c .before .before .before .before .before) in
-    omega (arith, c .before .before .before .finish .ensures .few, d .go-on .ensures .fits, c .before .before .before .before .before .if2 .taken, d .go-on .kept .1 .1 .0, start d .good .1 .1 .0 .0)
+    let t : tie.Then2 = c .before .before .before .before .before in
+    let d : tie.After-go-on = gone t in
+    omega (arith, c .before .before .before .finish .ensures .few, d .go-on .ensures .fits, t .if2 .taken, d .go-on .kept .1 .1 .0, start d .good .1 .1 .0 .0)
 
 same-length : tie.Need-same-length
 same-length c = search needs
@@ -53,8 +54,9 @@ returns c =
     let a = start d .args in
     let b = d .before .before .begin in
     let g = d .go-on in
+    let r = g .result in
     let k = c .before .before .before .finish in
-    day-done (a .budget) (now (a .text)) (now (a .out)) (g .last .1 .1 .0) (b .result) (g .result .session) (g .result .read) (g .result .written) (b .ensures) (g .ensures)
+    day-done (a .budget) (now (a .text)) (now (a .out)) (g .last .1 .1 .0) (b .result) (r .session) (r .read) (r .written) (b .ensures) (g .ensures)
     (g .kept .1 .1 .0) (t .before .if1 .taken) (t .if2 .taken) (k .last .1 .0) (k .result .used) (k .result .written) (k .ensures)
 
 same-length-2 : tie.Need-same-length-2
@@ -66,10 +68,11 @@ returns-2 c =
     let a = start d .args in
     let b = d .before .before .begin in
     let g = d .go-on in
+    let r = g .result in
     ⊎-elim
-    (λ w. day-short (a .budget) (now (a .text)) (now (a .out)) (g .last .1 .1 .0) (b .result) (g .result .session) (g .result .read) (g .result .written) (b .ensures) (g .ensures)
+    (λ w. day-short (a .budget) (now (a .text)) (now (a .out)) (g .last .1 .1 .0) (b .result) (r .session) (r .read) (r .written) (b .ensures) (g .ensures)
     (g .kept .1 .1 .0) (w .1 .left))
-    (λ w. day-left (a .budget) (now (a .text)) (now (a .out)) (g .last .1 .1 .0) (b .result) (g .result .session) (g .result .read) (g .result .written) (b .ensures) (g .ensures)
+    (λ w. day-left (a .budget) (now (a .text)) (now (a .out)) (g .last .1 .1 .0) (b .result) (r .session) (r .read) (r .written) (b .ensures) (g .ensures)
     (g .kept .1 .1 .0) (w .left))
     (c .before .before .if1 .came)
 

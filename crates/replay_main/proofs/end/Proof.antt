@@ -17,8 +17,9 @@ slice-reshare-prefix-put c = search needs
 
 slice-aggregate-put : tie.Need-slice-aggregate-put
 slice-aggregate-put c =
-    let k = c .before .before .before .finish in
-    simp length-take (omega (arith, k .ensures .few, k .kept .1 .0, c .before .before .before .before .before .before .pre .1))
+    let d : tie.After-finish = c .before .before .before in
+    let k = d .finish in
+    simp length-take (omega (arith, k .ensures .few, k .kept .1 .0, d .before .before .before .pre .1))
 
 put-requires : tie.Need-put-requires
 put-requires c κs = search needs

@@ -10,6 +10,7 @@ use Rattle.lines.specs.Code.{playOf}
 use Rattle.pieces.specs.Feed.{View}
 use Rattle.pieces.specs.Code.{heldOf}
 use Rattle.runs.specs.Code.{viewOf}
+use Rattle.runs.specs.declared.Run.{Run}
 use Rattle.runs.specs.Reading.{Doing, Next, next, doing-start, doing-step, doing-quick, doing-short, doing-all}
 use borrow.Author.Needs.{needs}
 use Rattle.runs.proofs.replay_some.Statement.{statement}
@@ -27,7 +28,8 @@ Inv-loop numbers₀ times₀ states₀ waiters₀ text scratch₀ out₀ pace₀
     (playOf pace (poolOf h numbers times states waiters) scratch) held count at w out
 
 abbrev μ-loop : tie.MeasureT-loop
-μ-loop numbers₀ times₀ states₀ waiters₀ text scratch₀ out₀ pace₀ h₀ held₀ count₀ at₀ w₀ numbers times states waiters scratch out pace h held count at w = length text - at
+μ-loop numbers₀ times₀ states₀ waiters₀ text scratch₀ out₀ pace₀ h₀ held₀ count₀ at₀ w₀ numbers times states waiters scratch out pace h held count at w =
+    length text - at
 
 -- the start, from the loop's head; the loop's head, from where the next piece was found; and that, on the two ways on
 abbrev start : tie.At-loop Inv-loop μ-loop → tie.Start Inv-loop μ-loop
@@ -42,6 +44,12 @@ quick c = c .before .before .before .before .before .before .before
 abbrev slow : tie.After-take-piece-arg4 Inv-loop μ-loop → tie.After-line-end Inv-loop μ-loop
 slow c = c .before .before .before .before .before
 
+abbrev quickly : tie.After-struct-known Inv-loop μ-loop → tie.After-take-line Inv-loop μ-loop
+quickly c = c .before .before .before .before .before .before .before
+
+abbrev slowly : tie.After-struct-known2 Inv-loop μ-loop → tie.After-take-piece Inv-loop μ-loop
+slowly c = c .before .before .before .before .before .before .before .before
+
 -- the text, what the run was at the start, and what it is at the loop's head
 abbrev text : tie.At-loop Inv-loop μ-loop → List ℕ
 text h = start h .args .text .now
@@ -52,21 +60,27 @@ begun h = let g = start h .args in viewOf (g .run) (given (g .head) (g .numbers)
 abbrev play : tie.At-loop Inv-loop μ-loop → Play
 play h = let a = h .loop in playOf (a .pace) (poolOf (a .h) (a .numbers) (a .times) (a .states) (a .waiters)) (a .scratch)
 
+abbrev run : tie.At-loop Inv-loop μ-loop → Run
+run h = let a = h .loop in record { pace = a .pace; held = a .held; count = a .count }
+
 -- and what a line and a piece leave
 abbrev lined : tie.After-take-line Inv-loop μ-loop → Play
 lined t =
+    let r = t .take-line .result in
     let k = t .take-line .last .1 in
-    playOf (t .take-line .result .pace) (poolOf (t .take-line .result .head) (k .1 .0) (k .1 .1 .0) (k .1 .1 .1 .0) (k .1 .1 .1 .1 .0)) (k .1 .1 .1 .1 .1 .1 .0)
+    playOf (r .pace) (poolOf (r .head) (k .1 .0) (k .1 .1 .0) (k .1 .1 .1 .0) (k .1 .1 .1 .1 .0)) (k .1 .1 .1 .1 .1 .1 .0)
 
 abbrev pieced : tie.After-take-piece Inv-loop μ-loop → Play
 pieced t =
+    let r = t .take-piece .result in
     let k = t .take-piece .last .1 .1 .1 in
-    playOf (t .take-piece .result .pace) (poolOf (t .take-piece .result .head) (k .1 .0) (k .1 .1 .0) (k .1 .1 .1 .0) (k .1 .1 .1 .1 .0)) (k .1 .1 .1 .1 .1 .1 .0)
+    playOf (r .pace) (poolOf (r .head) (k .1 .0) (k .1 .1 .0) (k .1 .1 .1 .0) (k .1 .1 .1 .1 .0)) (k .1 .1 .1 .1 .1 .1 .0)
 
 found : (d : tie.After-line-end Inv-loop μ-loop) → let a = head d .loop in Next (text (head d)) (a .out) (a .at) (a .w) (d .line-end .result)
 found d =
     let a = head d .loop in
-    next (text (head d)) (a .out) (a .at) (a .w) (d .line-end .result) (d .before .before .loop-test .taken) (d .before .if1 .taken) (d .line-end .ensures .0) (d .line-end .ensures .1)
+    let e = d .line-end in
+    next (text (head d)) (a .out) (a .at) (a .w) (e .result) (d .before .before .loop-test .taken) (d .before .if1 .taken) (e .ensures .0) (e .ensures .1)
 
 loop-holds : tie.Need-loop-holds Inv-loop μ-loop
 loop-holds c =
@@ -118,7 +132,7 @@ take-line-requires c κs =
 
 add-w : tie.Need-add-w Inv-loop μ-loop
 add-w c =
-    let t : tie.After-take-line Inv-loop μ-loop = c .before .before .before .before .before .before .before in
+    let t : tie.After-take-line Inv-loop μ-loop = quickly c in
     let d : tie.After-line-end Inv-loop μ-loop = quick (t .before .before .before .before) in
     let v = head d .loop .inv .1 in
     omega (arith, t .take-line .ensures .few, found d .room, v .long, start (head d) .good .1 .1 .1 .1 .1 .1 .1 .1 .0 .0)
@@ -160,46 +174,46 @@ take-piece-requires c κs =
 
 add-w-2 : tie.Need-add-w-2 Inv-loop μ-loop
 add-w-2 c =
-    let t : tie.After-take-piece Inv-loop μ-loop = c .before .before .before .before .before .before .before .before in
+    let t : tie.After-take-piece Inv-loop μ-loop = slowly c in
     let d : tie.After-line-end Inv-loop μ-loop = slow (t .before .before .before .before) in
     let v = head d .loop .inv .1 in
     omega (arith, t .take-piece .ensures .few, found d .room, v .long, start (head d) .good .1 .1 .1 .1 .1 .1 .1 .1 .0 .0)
 
 loop-less : tie.Need-loop-less Inv-loop μ-loop
 loop-less c =
-    let x = found (quick (c .before .before .before .before .before .before .before .before .before .before .before)) in
+    let x = found (quick (quickly c .before .before .before .before)) in
     omega (arith, x .further, x .within)
 
 loop-again : tie.Need-loop-again Inv-loop μ-loop
 loop-again c =
-    let t : tie.After-take-line Inv-loop μ-loop = c .before .before .before .before .before .before .before in
-    let f : tie.After-take-line-arg4 Inv-loop μ-loop = t .before .before .before .before in
-    let d : tie.After-line-end Inv-loop μ-loop = quick f in
+    let t : tie.After-take-line Inv-loop μ-loop = quickly c in
+    let f : tie.Then3 Inv-loop μ-loop = t .before .before .before .before .before .before .before .before in
+    let d : tie.After-line-end Inv-loop μ-loop = f .before .before .before in
     let h : tie.At-loop Inv-loop μ-loop = head d in
     let a = h .loop in
     let k = t .take-line in
     (
       omega (arith, k .kept .1 .1 .1 .1 .1 .1 .1 .0, a .inv .0),
-      doing-quick (text h) (now (start h .args .out)) (begun h) (play h) (a .held) (a .count) (a .at) (a .w) (a .out) (a .inv .1) (d .line-end .result) (found d)
-          (k .last .1 .1 .1 .1 .1 .1 .1 .1 .0) (lined t) (k .result .written) (f .before .before .before .before .before .before .if2 .taken) (f .before .before .before .before .if3 .taken) (k .ensures),
+      doing-quick (text h) (now (start h .args .out)) (begun h) (play h) (a .held) (a .count) (a .at) (a .w) (a .out) (a .inv .1)
+          (d .line-end .result) (found d) (k .last .1 .1 .1 .1 .1 .1 .1 .1 .0) (lined t) (k .result .written) (f .before .before .if2 .taken) (f .if3 .taken) (k .ensures),
     )
 
 loop-less-2 : tie.Need-loop-less-2 Inv-loop μ-loop
 loop-less-2 c =
-    let x = found (slow (c .before .before .before .before .before .before .before .before .before .before .before .before)) in
+    let x = found (slow (slowly c .before .before .before .before)) in
     omega (arith, x .further, x .within)
 
 loop-again-2 : tie.Need-loop-again-2 Inv-loop μ-loop
 loop-again-2 c =
-    let t : tie.After-take-piece Inv-loop μ-loop = c .before .before .before .before .before .before .before .before in
+    let t : tie.After-take-piece Inv-loop μ-loop = slowly c in
     let d : tie.After-line-end Inv-loop μ-loop = slow (t .before .before .before .before) in
     let h : tie.At-loop Inv-loop μ-loop = head d in
     let a = h .loop in
     let k = t .take-piece in
     (
       omega (arith, k .kept .1 .1 .1 .1 .1 .1 .1 .1 .1 .0, a .inv .0),
-      doing-step (text h) (now (start h .args .out)) (begun h) (play h) (a .held) (a .count) (a .at) (a .w) (a .out) (a .inv .1) (d .line-end .result) (found d)
-          (k .last .1 .1 .1 .1 .1 .1 .1 .1 .1 .1 .0) (pieced t) (k .result .written) (k .result .held) (k .result .count) (k .ensures),
+      doing-step (text h) (now (start h .args .out)) (begun h) (play h) (a .held) (a .count) (a .at) (a .w) (a .out) (a .inv .1)
+          (d .line-end .result) (found d) (k .last .1 .1 .1 .1 .1 .1 .1 .1 .1 .1 .0) (pieced t) (k .result .written) (k .result .held) (k .result .count) (k .ensures),
     )
 
 same-length : tie.Need-same-length Inv-loop μ-loop
@@ -212,7 +226,7 @@ returns : tie.Need-returns Inv-loop μ-loop
 returns c =
     let h : tie.At-loop Inv-loop μ-loop = c .before .before in
     let a = h .loop in
-    doing-short (text h) (now (start h .args .out)) (begun h) (record { pace = a .pace; held = a .held; count = a .count }) (play h .pool) (a .scratch) (a .at) (a .w) (a .out) (a .inv .1) (c .if1 .left)
+    doing-short (text h) (now (start h .args .out)) (begun h) (run h) (play h .pool) (a .scratch) (a .at) (a .w) (a .out) (a .inv .1) (c .if1 .left)
 
 same-length-3 : tie.Need-same-length-3 Inv-loop μ-loop
 same-length-3 c = c .before .loop .inv .0
@@ -224,7 +238,7 @@ returns-2 : tie.Need-returns-2 Inv-loop μ-loop
 returns-2 c =
     let h : tie.At-loop Inv-loop μ-loop = c .before in
     let a = h .loop in
-    doing-all (text h) (now (start h .args .out)) (begun h) (record { pace = a .pace; held = a .held; count = a .count }) (play h .pool) (a .scratch) (a .at) (a .w) (a .out) (a .inv .1) (c .loop-test .left)
+    doing-all (text h) (now (start h .args .out)) (begun h) (run h) (play h .pool) (a .scratch) (a .at) (a .w) (a .out) (a .inv .1) (c .loop-test .left)
 
 pub replay-some-spec : {M : Type 1} → statement M
 replay-some-spec =

@@ -40,7 +40,8 @@ returns c =
     let d : tie.After-replay-some = c .before .before .before .before .before in
     let s : tie.Start = start (d .before .before) in
     let k = d .replay-some in
-    went (s .args .session) (now (s .args .text)) (now (s .args .out)) (k .last .1 .1 .1 .1 .1 .1 .1 .1 .0) (left d) (k .result .read) (k .result .written) (k .ensures)
+    let a = s .args in
+    went (a .session) (now (a .text)) (now (a .out)) (k .last .1 .1 .1 .1 .1 .1 .1 .1 .0) (left d) (k .result .read) (k .result .written) (k .ensures)
     (omega (arith, k .kept .1 .1 .1 .1 .1 .1 .1 .0, s .pre .long))
 
 pub go-on-spec : {M : Type 1} → statement M

@@ -1,7 +1,7 @@
 -- One law for each exit of a line: what the code knows there gives the line's answer.
 use mathlib.Core.Path.{_≡_, refl, sym, ap, subst, _∙_}
 use mathlib.Core.Bool.{Bool, true, false}
-use mathlib.Core.List.{List, [], _++_}
+use mathlib.Core.List.{List, _++_}
 use mathlib.Core.Option.{Option, none, some}
 use Prim.Native.Nat.{ℕ, _+_, _*_, _%_, _≤_, _<_}
 use native.Mathlib.Omega.{arith}
@@ -9,7 +9,7 @@ use borrow.Author.Tests.{lt-ltb, le-ltb}
 use lib.ListN.{length, drop}
 use Rattle.definition.specs.Words.{if_then_else_}
 use Rattle.definition.specs.Pool.{withDefaults, inRange}
-use Rattle.definition.specs.Records.{recordLength, logLineLength, fields}
+use Rattle.definition.specs.Records.{logLineLength, fields}
 use Rattle.definition.specs.Refusals.{refusalNo, enoughRoom, roomRecords}
 use Rattle.definition.specs.Bytes.{recordBytes, lineOf, frameOfLine, optionsOfLine}
 use Rattle.definition.specs.Day.{RefusedLine, entryBytes}
@@ -30,7 +30,7 @@ use Rattle.lines.specs.declared.Phase.{Phase}
 use Rattle.lines.specs.declared.Phase.the-variants.{First, Going, Ended}
 use Rattle.lines.specs.declared.Pace.{Pace}
 use Rattle.lines.specs.Machine.{Took, quiet}
-use Rattle.lines.specs.OnSlots.{Play, refusedLine, saidOf, options, made, ready, badly, answered, lineIn, lastIn, lineSlots, lastSlots}
+use Rattle.lines.specs.OnSlots.{Play, refusedLine, saidOf, options, ready, badly, answered, lineIn, lastIn, lineSlots, lastSlots}
 use Rattle.lines.specs.Code.{goingPace, endedPace, countedPace, playOf, Able, Said, Lined, Opens, Ends}
 
 -- ── One line of the log, or none ───────────────────────────────────────────────────────────────────────────────────────────

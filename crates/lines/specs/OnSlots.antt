@@ -1,5 +1,5 @@
 -- The machine on slots: what the code does with a line, byte for byte.
-use mathlib.Core.List.{List, [], _∷_}
+use mathlib.Core.List.{List}
 use mathlib.Core.Option.{Option, none, some}
 use Prim.Native.Nat.{ℕ, _+_}
 use Rattle.definition.specs.Words.{if_then_else_, _<?_}

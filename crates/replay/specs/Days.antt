@@ -1,14 +1,14 @@
 -- A whole day in one call: its log, where the output has room for it.
 use mathlib.Core.Path.{_≡_, refl, sym, ap, subst, _∙_}
-use mathlib.Core.Bool.{Bool, true, false, true≢false, false≢true, _&&_}
+use mathlib.Core.Bool.{Bool, true, false, false≢true, _&&_}
 use mathlib.Core.List.{List, [], _∷_, _++_, append-nil}
-use Prim.Native.Nat.{ℕ, _+_, _-_, _≤_, _<_}
+use Prim.Native.Nat.{ℕ, _+_, _-_, _≤_}
 use native.Mathlib.Omega.{arith}
-use borrow.Author.Tests.{eq-eqb, eqb-true, le-leb, leb-true}
+use borrow.Author.Tests.{eq-eqb, eqb-true, le-leb}
 use lib.ListN.{length, drop, replicate, length-append, length-replicate}
 use Rattle.refinement.specs.Table.{and-both}
-use Rattle.definition.specs.Words.{if_then_else_, _=?_, _≤?_, _<?_}
-use Rattle.definition.specs.Day.{logOf, framesUsed}
+use Rattle.definition.specs.Words.{if_then_else_, _=?_, _≤?_}
+use Rattle.definition.specs.Day.{logOf}
 use Rattle.definition.specs.Refusals.{enoughRoom}
 use Rattle.refinement.specs.Alike.{freshSlots}
 use Rattle.lines.specs.Machine.{Took, lineRoom}

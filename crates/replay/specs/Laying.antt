@@ -1,15 +1,15 @@
 -- Records laid at the front of a buffer are the bytes of a log's entries.
 use mathlib.Core.Path.{_≡_, refl, sym, ap, _∙_}
-use mathlib.Core.List.{List, [], _∷_, _++_, append-assoc, append-nil}
-use Prim.Native.Nat.{ℕ, zero, suc, _+_, _*_, _≤_, _%_}
+use mathlib.Core.List.{List, [], _∷_, _++_, append-assoc}
+use Prim.Native.Nat.{ℕ, suc, _+_, _*_, _≤_}
 use native.Mathlib.Nat.{mod-add-mod}
 use native.Mathlib.Omega.{arith}
-use lib.ListN.{length, take, drop, take-append-drop, length-append, length-take, length-drop}
-use lib.Seq.{take-at, drop-at, drop-drop, take-append-le, length-take-le, take-append-add, drop-append-add}
+use lib.ListN.{length, take, drop, take-append-drop, length-append}
+use lib.Seq.{take-at, drop-at, drop-drop, length-take-le}
 use Rattle.slots.specs.OrderLaws.{length-record, length-laid}
 use Rattle.definition.specs.Records.{Record, fieldsOf}
 use Rattle.definition.specs.Bytes.{serialOf, recordBytes}
-use Rattle.definition.specs.Day.{Entry, Said, entryBytes, numbered, textOf}
+use Rattle.definition.specs.Day.{entryBytes, numbered, textOf}
 use Rattle.slots.specs.Laid.{laid}
 use Rattle.slots.specs.Done.{lay}
 use Rattle.printing.specs.Printed.{printed, entriesBytes, printed-entries}

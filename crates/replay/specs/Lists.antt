@@ -1,7 +1,7 @@
 -- The machine on lists: fed with any text, in any pieces, it says the definition's log.
 use mathlib.Core.Path.{_≡_, refl, sym, ap, _∙_}
 use mathlib.Core.Bool.{Bool, true, false}
-use mathlib.Core.List.{List, [], _∷_, _++_}
+use mathlib.Core.List.{List, [], _∷_}
 use mathlib.Core.Option.{Option, none, some}
 use Prim.Native.Nat.{ℕ, suc, _+_, _-_, _≤_, _<_, min}
 use native.Mathlib.Omega.{arith}
@@ -10,7 +10,6 @@ use lib.Seq.{take-nil}
 use borrow.Author.Tests.{ltb-true, ltb-false}
 use Rattle.definition.specs.Words.{if_then_else_, _<?_}
 use Rattle.definition.specs.Pool.{Pool}
-use Rattle.definition.specs.Steps.{Out}
 use Rattle.definition.specs.Refusals.{Result, step, after, enoughRoom, Making, NotMade, Made, make}
 use Rattle.definition.specs.Bytes.{frameOfLine, optionsOfLine}
 use Rattle.definition.specs.Day.{Entry, RefusedLine, entriesOf, frames, Day, day, badOptions, opened, chosen, linesOf}

@@ -3,32 +3,29 @@ use mathlib.Core.Path.{_≡_, refl, sym, ap, subst, _∙_}
 use mathlib.Core.Bool.{Bool, true, false, true≢false, false≢true}
 use mathlib.Core.List.{List, [], _∷_, _++_, append-assoc, append-nil}
 use mathlib.Core.Option.{Option, none, some}
-use Prim.Native.Nat.{ℕ, _+_, _*_, _≤_}
+use Prim.Native.Nat.{ℕ, _+_, _≤_}
 use native.Mathlib.Omega.{arith}
 use lib.ListN.{length}
 use borrow.Author.Tests.{le-ltb}
 use Rattle.definition.specs.Words.{if_then_else_, _<?_}
 use Rattle.definition.specs.Pool.{Pool, withDefaults, inRange, fresh}
-use Rattle.definition.specs.Steps.{Out}
 use Rattle.definition.specs.Refusals as R
 use Rattle.definition.specs.Refusals.{enoughRoom, roomRecords, make, first}
 use Rattle.definition.specs.Bytes.{lineOf, frameOfLine, optionsOfLine}
-use Rattle.definition.specs.Day.{Entry, RefusedLine, entryBytes, entriesOf, numbered, textOf, linesOf, logOf, framesUsed}
+use Rattle.definition.specs.Day.{Entry, RefusedLine, entryBytes, textOf, linesOf, logOf, framesUsed}
 use Rattle.definition.specs.declared.Options.{Options}
 use Rattle.definition.specs.declared.Frame.{Frame}
 use Rattle.definition.specs.declared.Frame.the-variants.{Good, Bad}
 use Rattle.definition.specs.declared.Refusal.{Refusal}
 use Rattle.definition.specs.declared.Refusal.the-variants.{Malformed, OptionsOutOfRange}
 use Rattle.slots.specs.View.{SlotPool}
-use Rattle.slots.specs.Done.{lay}
 use Rattle.slots.specs.Call.{World, call}
 use Rattle.slots.specs.declared.Outcome.{Outcome}
 use Rattle.slots.specs.declared.Outcome.the-variants.{Refused, Accepted}
 use Rattle.refinement.specs.Stands.{Stands}
-use Rattle.refinement.specs.Call.{Refines, call-refines, refines-stands}
-use Rattle.refinement.specs.Alike.{freshSlots}
+use Rattle.refinement.specs.Call.{Refines, call-refines}
 use Rattle.refinement.specs.Formed.{fresh-stands}
-use Rattle.printing.specs.Printed.{printed}
+use Rattle.text.specs.Printed.{printed}
 use Rattle.refinement.specs.RecordRoom.{FewIn, call-few}
 use Rattle.lines.specs.declared.Phase.{Phase}
 use Rattle.lines.specs.declared.Phase.the-variants as phase

@@ -16,7 +16,7 @@ use Rattle.lines.specs.declared.Phase.{Phase}
 use Rattle.lines.specs.declared.Phase.the-variants.{First, Going, Ended}
 use Rattle.lines.specs.Machine.{Took, Machine, quiet, thereafter}
 use Rattle.lines.specs.OnSlots.{Play, options, ready, badly, answered, lineIn, lastIn, lineSlots, lastSlots, onSlots}
-use Rattle.pieces.specs.Feed.{View, Fed, heldMost, stop, joined, emptied, push, lineAt, finish}
+use Rattle.pieces.specs.Feed.{View, Fed, heldMost, joined, emptied, finish}
 use Rattle.pieces.specs.Cap.{cap-append, line-cap}
 use Rattle.replay.specs.Calls.{feed, feed-true, feed-false, feed-nil, ended}
 

@@ -8,10 +8,9 @@ use Rattle.slots.specs.View.{SlotPool}
 use Rattle.lines.specs.declared.Pace.{Pace}
 use Rattle.lines.specs.Machine.{Took}
 use Rattle.lines.specs.OnSlots.{Play, lineSlots, lastSlots, onSlots}
-use Rattle.lines.specs.Code.{playOf, Able, Lined, Ends}
+use Rattle.lines.specs.Code.{playOf, Lined, Ends}
 use Rattle.runs.specs.declared.Run.{Run}
 use Rattle.pieces.specs.Feed.{finish}
-use Rattle.pieces.specs.Code.{Holds}
 use Rattle.runs.specs.Code.{Kept}
 
 finish-none : (s : Play) (b : List ℕ) (n : ℕ) → n ≡ 0 → finish onSlots s (take n b) ≡ lastSlots s

@@ -1,23 +1,21 @@
 -- One law for each function: what it calls gives its answer.
-use mathlib.Core.Path.{_≡_, sym, ap, subst, _∙_}
+use mathlib.Core.Path.{_≡_, ap, _∙_}
 use mathlib.Core.List.{List}
 use Prim.Native.Nat.{ℕ, _+_, _-_, _≤_, _<_}
 use native.Mathlib.Omega.{arith}
 use lib.ListN.{length, take, drop, replicate, length-take, length-drop, length-replicate}
 use Rattle.definition.specs.Refusals.{enoughRoom}
 use Rattle.slots.specs.View.{SlotPool}
-use Rattle.slots.specs.declared.Head.{Head}
-use Rattle.refinement.specs.Alike.{freshHead, freshSlots}
-use Rattle.refinement.specs.Formed.{overBlank, fresh-parts}
+use Rattle.refinement.specs.Formed.{freshHead, freshSlots, overBlank, fresh-parts}
 use Rattle.lines.specs.Machine.{Took}
 use Rattle.lines.specs.OnSlots.{Play, onSlots}
 use Rattle.lines.specs.Code.{Lined}
-use Rattle.pieces.specs.Feed.{View, emptied, goOn}
+use Rattle.pieces.specs.Feed.{emptied, goOn}
 use Rattle.runs.specs.declared.Run.{Run}
-use Rattle.runs.specs.Code.{viewOf, beginRun, noOptions, Kept, Read}
+use Rattle.runs.specs.Code.{viewOf, beginRun, noOptions, Read}
 use Rattle.runs.specs.Resumed.{begin-kept, read-some}
 use Rattle.session.specs.declared.Session.{Session}
-use Rattle.session.specs.Code.{poolIn, viewIn, Ready, begun, opening, Begins, Went, Finishes}
+use Rattle.session.specs.Code.{poolIn, viewIn, begun, Begins, Went, Finishes}
 
 -- of blank columns
 pub begins : (budget : ℕ) (s : Session) → s .run ≡ beginRun budget → s .head ≡ freshHead noOptions → poolIn s ≡ overBlank (s .head)

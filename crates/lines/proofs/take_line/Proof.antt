@@ -1,4 +1,4 @@
-use mathlib.Core.Path.{_≡_, sym, subst}
+use mathlib.Core.Path.{subst}
 use denote.Ref.{now}
 use Rattle.slots.specs.View.{SlotPool, given, poolOf}
 use Rattle.lines.specs.declared.Phase.{Phase}

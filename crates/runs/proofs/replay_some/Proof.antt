@@ -1,6 +1,6 @@
-use mathlib.Core.Path.{_≡_, refl, _∙_}
+use mathlib.Core.Path.{_≡_, refl}
 use mathlib.Core.List.{List}
-use Prim.Native.Nat.{ℕ, _≤_, _-_, _+_}
+use Prim.Native.Nat.{ℕ, _-_}
 use native.Mathlib.Omega.{arith}
 use denote.Ref.{now}
 use lib.ListN.{length, length-take, length-drop}
@@ -163,8 +163,7 @@ take-piece-requires : tie.Need-take-piece-requires Inv-loop μ-loop
 take-piece-requires c κs =
     let d : tie.After-line-end Inv-loop μ-loop = slow (c .before .before .before) in
     let v = head d .loop .inv in
-    let x = found d in
-    (
+    let x = found d in (
       v .1 .holds,
       v .1 .able,
       simp (length-take, length-drop) (omega (arith, x .further, x .within)),
@@ -191,8 +190,7 @@ loop-again c =
     let d : tie.After-line-end Inv-loop μ-loop = f .before .before .before in
     let h : tie.At-loop Inv-loop μ-loop = head d in
     let a = h .loop in
-    let k = t .take-line in
-    (
+    let k = t .take-line in (
       omega (arith, k .kept .1 .1 .1 .1 .1 .1 .1 .0, a .inv .0),
       doing-quick (text h) (now (start h .args .out)) (begun h) (play h) (a .held) (a .count) (a .at) (a .w) (a .out) (a .inv .1)
           (d .line-end .result) (found d) (k .last .1 .1 .1 .1 .1 .1 .1 .1 .0) (lined t) (k .result .written) (f .before .before .if2 .taken) (f .if3 .taken) (k .ensures),
@@ -209,8 +207,7 @@ loop-again-2 c =
     let d : tie.After-line-end Inv-loop μ-loop = slow (t .before .before .before .before) in
     let h : tie.At-loop Inv-loop μ-loop = head d in
     let a = h .loop in
-    let k = t .take-piece in
-    (
+    let k = t .take-piece in (
       omega (arith, k .kept .1 .1 .1 .1 .1 .1 .1 .1 .1 .0, a .inv .0),
       doing-step (text h) (now (start h .args .out)) (begun h) (play h) (a .held) (a .count) (a .at) (a .w) (a .out) (a .inv .1)
           (d .line-end .result) (found d) (k .last .1 .1 .1 .1 .1 .1 .1 .1 .1 .1 .0) (pieced t) (k .result .written) (k .result .held) (k .result .count) (k .ensures),

@@ -25,7 +25,7 @@ use Rattle.slots.specs.declared.Outcome.the-variants.{Refused, Accepted}
 use Rattle.refinement.specs.Stands.{Stands}
 use Rattle.refinement.specs.Call.{Refines, call-refines}
 use Rattle.refinement.specs.Formed.{fresh-stands}
-use Rattle.text.specs.Printed.{printed}
+use Rattle.printing.specs.Printed.{printed}
 use Rattle.refinement.specs.RecordRoom.{FewIn, call-few}
 use Rattle.lines.specs.declared.Phase.{Phase}
 use Rattle.lines.specs.declared.Phase.the-variants as phase

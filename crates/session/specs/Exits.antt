@@ -6,7 +6,8 @@ use native.Mathlib.Omega.{arith}
 use lib.ListN.{length, take, drop, replicate, length-take, length-drop, length-replicate}
 use Rattle.definition.specs.Refusals.{enoughRoom}
 use Rattle.slots.specs.View.{SlotPool}
-use Rattle.refinement.specs.Formed.{freshHead, freshSlots, overBlank, fresh-parts}
+use Rattle.refinement.specs.Alike.{freshHead, freshSlots}
+use Rattle.refinement.specs.Formed.{overBlank, fresh-parts}
 use Rattle.lines.specs.Machine.{Took}
 use Rattle.lines.specs.OnSlots.{Play, onSlots}
 use Rattle.lines.specs.Code.{Lined}

@@ -1,34 +1,55 @@
--- What several proofs cite: one more turn of a loop.
+-- Each loop before its turn i, one more turn of it, and its end, over variables.
 use mathlib.Core.Path.{_≡_, refl, sym, ap, _∙_}
 use mathlib.Core.Bool.{Bool, true, false, not, _&&_, _||_, false≢true}
 use mathlib.Core.List.{List}
-use Prim.Native.Nat.{ℕ, zero, suc, _+_, _%_, _≤_, _<_}
+use Prim.Native.Nat.{ℕ, zero, suc, _+_, _/_, _%_, _≤_, _<_}
 use native.Mathlib.Numerals.{add-one}
 use native.Mathlib.Omega.{arith}
-use lib.ListN.{length, getD, set, replicate}
+use lib.ListN.{length, getD, set, replicate, length-set, length-replicate}
 use lib.Seq.{getD-set-same, getD-set-other}
 use lib.Dec.{eqb}
-use borrow.Author.Tests.{lt-ltb, le-ltb, le-leb, eq-eqb, ne-eqb}
+use borrow.Author.Tests.{lt-ltb, le-ltb, le-leb, lt-leb, eq-eqb, ne-eqb}
+use Rattle.slots.specs.Columns.{column-at}
+use Rattle.slots.specs.View.{orderIn}
+use Rattle.definition.specs.Pool.{queueLength, slotCount, inRange}
+use Rattle.definition.specs.Refusals.{mostNextId}
+use Rattle.definition.specs.Words.{_=?_, _≤?_}
+use Rattle.slots.specs.declared.Head.{Head}
+use Rattle.refinement.specs.Agree.{Class}
 use Rattle.refinement.specs.Formed.{zeros}
-use Rattle.definition.specs.Pool.{slotCount}
-use Rattle.definition.specs.Words.{_=?_}
-use Rattle.refinement.specs.Table.{by-eq}
+use Rattle.refinement.specs.Mirror.{isPending}
 use Rattle.refinement.specs.Rules.{isShelved, oneIf}
-use Rattle.rules.specs.Tests.{every, tally, among, blankPast, newId, listedAt, orderRight}
+use Rattle.refinement.specs.Table.{by-eq}
+use Rattle.rules.specs.Tests.{every, tally, among, blankPast, isTaken, before, waiterFits, newId, idsBelow, idsDistinct, slotsFit, howMany, countsRight, listedAt, orderRight, blankFrom, queueRises, keepsRules}
 
 -- ── every ──
 
-pub every-more : (n : ℕ) (t : ℕ → Bool) (ok x r : Bool) → ok ≡ every n t → x ≡ t n → r ≡ (ok && x) → r ≡ every (n + 1) t
+every-more : (n : ℕ) (t : ℕ → Bool) (ok x r : Bool) → ok ≡ every n t → x ≡ t n → r ≡ (ok && x) → r ≡ every (n + 1) t
 unfolding every
 every-more n t ok x r a b e = rw (add-one n, ← a, ← b) e
 
-pub every-none : (t : ℕ → Bool) → true ≡ every 0 t
+every-none : (t : ℕ → Bool) → true ≡ every 0 t
 unfolding every
 every-none t = refl
 
-pub every-grow : (n : ℕ) (t : ℕ → Bool) → true ≡ every n t → t n ≡ true → true ≡ every (n + 1) t
+every-grow : (n : ℕ) (t : ℕ → Bool) → true ≡ every n t → t n ≡ true → true ≡ every (n + 1) t
 unfolding every
 every-grow n t a b = rw (add-one n, ← a, b)
+
+-- of size places the first i were tested
+pub record Testing (size : ℕ) (t : ℕ → Bool) (i : ℕ) (ok : Bool) : Type 0 where
+  pub low : i ≤ size
+  pub so-far : ok ≡ every i t
+
+pub testing-start : (size : ℕ) (t : ℕ → Bool) → Testing size t 0 true
+testing-start size t = record { low = omega arith; so-far = every-none t }
+
+module _ (size : ℕ) (t : ℕ → Bool) (i : ℕ) (ok : Bool) (v : Testing size t i ok) where
+  pub testing-more : (x r : Bool) → i < size → x ≡ t i → r ≡ (ok && x) → Testing size t (i + 1) r
+  testing-more x r h e f = record { low = omega arith; so-far = every-more i t ok x r (v .so-far) e f }
+
+  pub testing-end : size ≤ i → ok ≡ every size t
+  testing-end h = let e : i ≡ size = omega (arith, v .low) in v .so-far ∙ rw e
 
 and-false : (b : Bool) → (b && false) ≡ false
 and-false true = refl
@@ -39,7 +60,7 @@ and-true true = refl
 and-true false = refl
 
 -- one place that fails is enough
-pub every-fails : (n i : ℕ) (t : ℕ → Bool) → i < n → t i ≡ false → false ≡ every n t
+every-fails : (n i : ℕ) (t : ℕ → Bool) → i < n → t i ≡ false → false ≡ every n t
 unfolding every
 every-fails zero i t h e = absurd (omega arith)
 every-fails (suc n) i t h e =
@@ -49,32 +70,57 @@ every-fails (suc n) i t h e =
 
 -- ── blank cells ──
 
-module _ (n : ℕ) (l : List ℕ) where
+module _ (size n : ℕ) (l : List ℕ) where
   abbrev blankAt : ℕ → Bool
   blankAt j = blankPast n j (getD l j 0)
 
   -- what stands before the n-th may be anything
-  pub blank-before : (m : ℕ) → m ≤ n → true ≡ every m blankAt
+  blank-before : (m : ℕ) → m ≤ n → true ≡ every m blankAt
   unfolding every
   blank-before zero h = refl
   blank-before (suc m) h =
       let k : m < n = omega arith in
       rw (← blank-before m (omega arith), lt-ltb m n k)
 
-  module _ (i : ℕ) (h : n ≤ i) where
-    pub blank-lost : (getD l i 0 ≡ 0 → ⊥) → false ≡ every (i + 1) blankAt
-    blank-lost k = every-fails (i + 1) i blankAt (omega arith) (rw (le-ltb i n h, ne-eqb (getD l i 0) 0 k))
+  pub blank-past : size < n → true ≡ blankFrom size n l
+  unfolding blankFrom
+  blank-past h = blank-before size (omega arith)
 
-    pub blank-kept : (ok : Bool) → ok ≡ every i blankAt → getD l i 0 ≡ 0 → ok ≡ every (i + 1) blankAt
-    blank-kept ok a e = every-more i blankAt ok true ok a (rw (le-ltb i n h, eq-eqb (getD l i 0) 0 e)) (and-true ok)
+  -- the test begins at the n-th
+  pub record Blanking (i : ℕ) (ok : Bool) : Type 0 where
+    pub past : n ≤ i
+    pub low : i ≤ size
+    pub so-far : ok ≡ every i (λ j. blankPast n j (getD l j 0))
+
+  pub blanking-start : n ≤ size → Blanking n true
+  blanking-start h = record { past = omega arith; low = h; so-far = blank-before n (omega arith) }
+
+  module _ (i : ℕ) (ok : Bool) (v : Blanking i ok) where
+    pub blanking-lost : i < size → (getD l i 0 ≡ 0 → ⊥) → Blanking (i + 1) false
+    blanking-lost h k = record {
+      past = omega (arith, v .past);
+      low = omega arith;
+      so-far = every-fails (i + 1) i blankAt (omega arith) (rw (le-ltb i n (v .past), ne-eqb (getD l i 0) 0 k));
+    }
+
+    pub blanking-kept : i < size → getD l i 0 ≡ 0 → Blanking (i + 1) ok
+    blanking-kept h e = record {
+      past = omega (arith, v .past);
+      low = omega arith;
+      so-far = every-more i blankAt ok true ok (v .so-far) (rw (le-ltb i n (v .past), eq-eqb (getD l i 0) 0 e)) (and-true ok);
+    }
+
+    pub blanking-end : size ≤ i → ok ≡ blankFrom size n l
+    unfolding blankFrom
+    blanking-end h = let e : i ≡ size = omega (arith, v .low) in v .so-far ∙ rw e
 
 -- ── tally ──
 
-pub tally-more : (n : ℕ) (t : ℕ → Bool) (k b : ℕ) (x : Bool) → k ≡ tally n t → x ≡ t n → b ≡ oneIf x → k + b ≡ tally (n + 1) t
+tally-more : (n : ℕ) (t : ℕ → Bool) (k b : ℕ) (x : Bool) → k ≡ tally n t → x ≡ t n → b ≡ oneIf x → k + b ≡ tally (n + 1) t
 unfolding tally
 tally-more n t k b x a e d = rw (add-one n, ← a, ← e, d)
 
-pub tally-none : (t : ℕ → Bool) → 0 ≡ tally 0 t
+tally-none : (t : ℕ → Bool) → 0 ≡ tally 0 t
 unfolding tally
 tally-none t = refl
 
@@ -82,13 +128,45 @@ oneIf-small : (b : Bool) → oneIf b ≤ 1
 oneIf-small true = omega arith
 oneIf-small false = omega arith
 
-pub tally-small : (n : ℕ) (t : ℕ → Bool) → tally n t ≤ n
+tally-small : (n : ℕ) (t : ℕ → Bool) → tally n t ≤ n
 unfolding tally
 tally-small zero t = omega arith
 tally-small (suc n) t = omega (arith, tally-small n t, oneIf-small (t n))
 
+-- k of the first i states are of the class
+pub record Tallied (states : List ℕ) (t : Class) (i k : ℕ) : Type 0 where
+  pub count : k ≡ tally i (λ j. t (getD states j 0))
+  pub small : k ≤ i
+
+pub tallied-none : (states : List ℕ) (t : Class) → Tallied states t 0 0
+tallied-none states t = record { count = tally-none (λ j. t (getD states j 0)); small = omega arith }
+
+pub tallied-more : (states : List ℕ) (t : Class) (i k b : ℕ) (x : Bool) → Tallied states t i k → x ≡ t (getD states i 0) → b ≡ oneIf x
+    → Tallied states t (i + 1) (k + b)
+tallied-more states t i k b x v e d = record {
+  count = tally-more i (λ j. t (getD states j 0)) k b x (v .count) e d;
+  small = omega (arith, v .small, oneIf-small x);
+}
+
+-- one is added at most
 pub one-small : (b : ℕ) (x : Bool) → b ≡ oneIf x → b ≤ 1
 one-small b x e = omega (arith, oneIf-small x)
+
+pub record Counting (states : List ℕ) (i a b c : ℕ) : Type 0 where
+  pub low : i ≤ slotCount
+  pub taken : Tallied states isTaken i a
+  pub pending : Tallied states isPending i b
+  pub shelved : Tallied states isShelved i c
+
+pub counting-end : (states : List ℕ) (i a b c total pending available : ℕ) (x r : Bool) → slotCount ≤ i → Counting states i a b c
+    → x ≡ (b =? pending && c =? available) → r ≡ (a =? total && x) → r ≡ countsRight states total pending available
+unfolding countsRight
+counting-end states i a b c total pending available x r h v ex er =
+    let e : i ≡ slotCount = omega (arith, v .low) in
+    let ea : a ≡ howMany isTaken states = v .taken .count ∙ rw e in
+    let eb : b ≡ howMany isPending states = v .pending .count ∙ rw e in
+    let ec : c ≡ howMany isShelved states = v .shelved .count ∙ rw e in
+    rw (← ea, ← eb, ← ec, ← ex) er
 
 -- ── among ──
 
@@ -96,7 +174,7 @@ or-true : (b : Bool) → (b || true) ≡ true
 or-true true = refl
 or-true false = refl
 
-pub among-none : (x : ℕ) (l : List ℕ) → among x 0 l ≡ false
+among-none : (x : ℕ) (l : List ℕ) → among x 0 l ≡ false
 unfolding among
 among-none x l = refl
 
@@ -108,13 +186,25 @@ among-here x (suc n) i l h e =
     (λ q. let k : getD l n 0 ≡ x = rw q at e in rw (eq-eqb (getD l n 0) x k, or-true))
     (λ q. let k : i < n = omega arith in rw (← among-here x n i l k e))
 
-pub among-more : (x n : ℕ) (l : List ℕ) → among x n l ≡ false → (getD l n 0 ≡ x → ⊥) → among x (n + 1) l ≡ false
-unfolding among
-among-more x n l a b = rw (add-one n, a, ne-eqb (getD l n 0) x b)
+-- x is not among the first i
+pub record Missing (x n : ℕ) (l : List ℕ) (i : ℕ) : Type 0 where
+  pub low : i ≤ n
+  pub so-far : among x i l ≡ false
+
+pub missing-start : (x n : ℕ) (l : List ℕ) → Missing x n l 0
+missing-start x n l = record { low = omega arith; so-far = among-none x l }
+
+module _ (x n : ℕ) (l : List ℕ) (i : ℕ) (v : Missing x n l i) where
+  pub missing-more : i < n → (getD l i 0 ≡ x → ⊥) → Missing x n l (i + 1)
+  unfolding among
+  missing-more h b = record { low = omega arith; so-far = rw (add-one i, v .so-far, ne-eqb (getD l i 0) x b) }
+
+  pub missing-end : n ≤ i → false ≡ among x n l
+  missing-end h = let e : i ≡ n = omega (arith, v .low) in sym (v .so-far) ∙ rw e
 
 -- ── the marks of the remainders: whoever stands before place i has its mark ──
 
-abbrev pub Marked : List ℕ → ℕ → List ℕ → Type 0
+abbrev Marked : List ℕ → ℕ → List ℕ → Type 0
 Marked ids i marks = (j : ℕ) → j < i → 0 < getD marks (getD ids j 0 % 256) 0
 
 -- whoever has no mark is new
@@ -125,19 +215,25 @@ unmarked x (suc n) ids marks m z =
     let d : getD ids n 0 ≡ x → ⊥ = λ e. let k : 0 < getD marks (x % 256) 0 = rw e at (m n (omega arith)) in omega arith in
     rw (unmarked x n ids marks (λ j h. m j (omega arith)) z, ne-eqb (getD ids n 0) x d)
 
+-- what `clashes` says of place i, whose remainder has the mark
+abbrev clashing : ℕ → ℕ → List ℕ → Bool
+clashing i mark ids = not (mark =? 0) && (not (getD ids i 0 =? 0) && among (getD ids i 0) i ids)
+
 -- no clash: new
-pub no-clash : (i mark : ℕ) (ids marks : List ℕ) (r : Bool) → Marked ids i marks → mark ≡ getD marks (getD ids i 0 % 256) 0
-    → r ≡ (not (mark =? 0) && (not (getD ids i 0 =? 0) && among (getD ids i 0) i ids)) → r ≡ false → newId ids i ≡ true
-no-clash i mark ids marks r m k e f =
-    by-eq (getD ids i 0) 0
-    (λ z. rw (eq-eqb (getD ids i 0) 0 z))
+no-clash : (i : ℕ) (ids marks : List ℕ) (r : Bool) → Marked ids i marks → r ≡ clashing i (getD marks (getD ids i 0 % 256) 0) ids → r ≡ false
+    → newId ids i ≡ true
+no-clash i ids marks r m e f =
+    let x : ℕ = getD ids i 0 in
+    let mark : ℕ = getD marks (x % 256) 0 in
+    by-eq x 0
+    (λ z. rw (eq-eqb x 0 z))
     (λ z. by-eq mark 0
-    (λ y. rw (ne-eqb (getD ids i 0) 0 z, unmarked (getD ids i 0) i ids marks m (sym k ∙ y)))
-    (λ y. let w : among (getD ids i 0) i ids ≡ false = sym (rw (ne-eqb mark 0 y, ne-eqb (getD ids i 0) 0 z) at e) ∙ f in
-    rw (ne-eqb (getD ids i 0) 0 z, w)))
+    (λ y. rw (ne-eqb x 0 z, unmarked x i ids marks m y))
+    (λ y. let w : among x i ids ≡ false = sym (rw (ne-eqb mark 0 y, ne-eqb x 0 z) at e) ∙ f in
+    rw (ne-eqb x 0 z, w)))
 
 -- a clash: not new
-pub clash : (i mark : ℕ) (ids : List ℕ) (r : Bool) → r ≡ (not (mark =? 0) && (not (getD ids i 0 =? 0) && among (getD ids i 0) i ids)) → r ≡ true → newId ids i ≡ false
+clash : (i mark : ℕ) (ids : List ℕ) (r : Bool) → r ≡ clashing i mark ids → r ≡ true → newId ids i ≡ false
 clash i mark ids r e f = go (mark =? 0) (getD ids i 0 =? 0) (among (getD ids i 0) i ids) (sym e ∙ f)
   where
     go : (a b c : Bool) → (not a && (not b && c)) ≡ true → (b || not c) ≡ false
@@ -146,19 +242,49 @@ clash i mark ids r e f = go (mark =? 0) (getD ids i 0 =? 0) (among (getD ids i 0
     go false false true h = refl
     go false false false h = absurd (false≢true h)
 
-pub marked-more : (i : ℕ) (ids marks : List ℕ) → length marks ≡ 256 → getD ids i 0 % 256 < 256 → Marked ids i marks → Marked ids (i + 1) (set marks (getD ids i 0 % 256) 1)
+marked-more : (i : ℕ) (ids marks : List ℕ) → length marks ≡ 256 → getD ids i 0 % 256 < 256 → Marked ids i marks
+    → Marked ids (i + 1) (set marks (getD ids i 0 % 256) 1)
 marked-more i ids marks len low m j h =
-    let h0 = getD ids i 0 % 256 in
+    let h0 : ℕ = getD ids i 0 % 256 in
     by-eq (getD ids j 0 % 256) h0
     (λ e. rw (e, getD-set-same marks h0 1 0 (omega arith)) (omega arith))
-    (λ e. rw (getD-set-other marks h0 (getD ids j 0 % 256) 1 0 e) (m j (by-eq j i (λ q. absurd (e (ap (λ (x : ℕ). getD ids x 0 % 256) q))) (λ q. omega arith))))
+    (λ e. rw (getD-set-other marks h0 (getD ids j 0 % 256) 1 0 e)
+    (m j (by-eq j i (λ q. absurd (e (ap (λ (x : ℕ). getD ids x 0 % 256) q))) (λ q. omega arith))))
+
+-- the first i are distinct and marked
+pub record Marking (ids : List ℕ) (i : ℕ) (marks : List ℕ) : Type 0 where
+  pub low : i ≤ slotCount
+  pub long : length marks ≡ 256
+  pub so-far : true ≡ every i (newId ids)
+  pub marked : Marked ids i marks
+
+pub marking-start : (ids marks : List ℕ) → length marks ≡ 256 → Marking ids 0 marks
+marking-start ids marks l = record { low = omega arith; long = l; so-far = every-none (newId ids); marked = λ j h. absurd (omega arith) }
+
+module _ (ids : List ℕ) (i : ℕ) (marks : List ℕ) (v : Marking ids i marks) where
+  module _ (h : i < slotCount) (r : Bool) (e : r ≡ clashing i (getD marks (getD ids i 0 % 256) 0) ids) where
+    pub marking-clash : r ≡ true → false ≡ idsDistinct ids
+    unfolding idsDistinct
+    marking-clash f = every-fails slotCount i (newId ids) h (clash i (getD marks (getD ids i 0 % 256) 0) ids r e f)
+
+    pub marking-more : getD ids i 0 % 256 < 256 → r ≡ false → Marking ids (i + 1) (set marks (getD ids i 0 % 256) 1)
+    marking-more low f = record {
+      low = omega arith;
+      long = simp length-set (v .long);
+      so-far = every-grow i (newId ids) (v .so-far) (no-clash i ids marks r (v .marked) e f);
+      marked = marked-more i ids marks (v .long) low (v .marked);
+    }
+
+  pub marking-end : slotCount ≤ i → true ≡ idsDistinct ids
+  unfolding idsDistinct
+  marking-end h = let e : i ≡ slotCount = omega (arith, v .low) in v .so-far ∙ rw e
 
 -- ── the slots met: exactly those among the first i ──
 
-abbrev pub Met : List ℕ → ℕ → List ℕ → Type 0
+abbrev Met : List ℕ → ℕ → List ℕ → Type 0
 Met a i met = (e : ℕ) → eqb (getD met e 0) 0 ≡ not (among e i a)
 
-pub met-more : (i : ℕ) (a met : List ℕ) → getD a i 0 < length met → Met a i met → Met a (i + 1) (set met (getD a i 0) 1)
+met-more : (i : ℕ) (a met : List ℕ) → getD a i 0 < length met → Met a i met → Met a (i + 1) (set met (getD a i 0) 1)
 unfolding among
 met-more i a met low m e =
     by-eq e (getD a i 0)
@@ -169,30 +295,114 @@ met-more i a met low m e =
     or-false true = refl
     or-false false = refl
 
--- ── the order list ──
-
-module _ (a states : List ℕ) (i e : ℕ) (is : e ≡ getD a i 0) where
-  pub order-fails : (n : ℕ) → n ≤ slotCount → i < n → listedAt a states i ≡ false → false ≡ orderRight a states n
-  unfolding orderRight
-  order-fails n h k f = rw (le-leb n slotCount h) (every-fails n i (listedAt a states) k f)
-
-  pub listed-high : slotCount ≤ e → listedAt a states i ≡ false
-  listed-high h = rw (← is, le-ltb e slotCount h)
-
-  pub listed-unshelved : e < slotCount → isShelved (getD states e 0) ≡ false → listedAt a states i ≡ false
-  listed-unshelved h k = rw (← is, lt-ltb e slotCount h, k)
-
-  pub listed-met : e < slotCount → isShelved (getD states e 0) ≡ true → not (among e i a) ≡ false → listedAt a states i ≡ false
-  listed-met h k f = rw (← is, lt-ltb e slotCount h, k, f)
-
-  pub listed-new : e < slotCount → isShelved (getD states e 0) ≡ true → not (among e i a) ≡ true → listedAt a states i ≡ true
-  listed-new h k f = rw (← is, lt-ltb e slotCount h, k, f)
-
-pub met-none : (a : List ℕ) → Met a 0 (replicate slotCount 0)
+met-none : (a : List ℕ) → Met a 0 (replicate slotCount 0)
 unfolding among
 met-none a e = rw (zeros slotCount e)
 
--- ── and ──
+-- ── the order list ──
 
-pub and-is : {r x y x' y' : Bool} → r ≡ (x && y) → x ≡ x' → y ≡ y' → r ≡ (x' && y')
-and-is e a b = rw (← a, ← b) e
+-- the first i are right, and met
+pub record Ordering (states : List ℕ) (n i : ℕ) (met : List ℕ) : Type 0 where
+  pub low : i ≤ n
+  pub long : length met ≡ slotCount
+  pub so-far : true ≡ every i (listedAt (orderIn states) states)
+  pub met-so-far : Met (orderIn states) i met
+
+pub ordering-start : (states : List ℕ) (n : ℕ) → Ordering states n 0 (replicate slotCount 0)
+ordering-start states n = record {
+  low = omega arith;
+  long = length-replicate {A = ℕ} slotCount 0;
+  so-far = every-none (listedAt (orderIn states) states);
+  met-so-far = met-none (orderIn states);
+}
+
+pub order-long : (order states : List ℕ) (n : ℕ) → slotCount < n → false ≡ orderRight order states n
+unfolding orderRight
+order-long order states n h = rw (lt-leb n slotCount h)
+
+-- e is listed at place i
+module _ (states : List ℕ) (n i : ℕ) (met : List ℕ) (v : Ordering states n i met) (room : n ≤ slotCount) where
+  module _ (h : i < n) (e : ℕ) (is : e ≡ getD states (slotCount + i) 0) where
+    there : e ≡ getD (orderIn states) i 0
+    there = is ∙ sym (column-at 1 states i (omega arith))
+
+    fails : listedAt (orderIn states) states i ≡ false → false ≡ orderRight (orderIn states) states n
+    unfolding orderRight
+    fails f = rw (le-leb n slotCount room) (every-fails n i (listedAt (orderIn states) states) h f)
+
+    pub order-high : slotCount ≤ e → false ≡ orderRight (orderIn states) states n
+    order-high k = fails (rw (← there, le-ltb e slotCount k))
+
+    module _ (low : e < slotCount) where
+      pub order-unshelved : (getD states e 0 ≡ 1 → ⊥) → false ≡ orderRight (orderIn states) states n
+      order-unshelved k = fails (rw (← there, lt-ltb e slotCount low, ne-eqb (getD states e 0) 1 k))
+
+      module _ (k : getD states e 0 ≡ 1) where
+        pub order-met : (getD met e 0 ≡ 0 → ⊥) → false ≡ orderRight (orderIn states) states n
+        order-met m =
+            let a : not (among e i (orderIn states)) ≡ false = sym (v .met-so-far e) ∙ ne-eqb (getD met e 0) 0 m in
+            fails (rw (← there, lt-ltb e slotCount low, eq-eqb (getD states e 0) 1 k, a))
+
+        pub ordering-more : getD met e 0 ≡ 0 → Ordering states n (i + 1) (set met e 1)
+        ordering-more m =
+            let a : not (among e i (orderIn states)) ≡ true = sym (v .met-so-far e) ∙ eq-eqb (getD met e 0) 0 m in
+            let l : getD (orderIn states) i 0 < length met = omega (arith, there, v .long) in
+            record {
+              low = omega arith;
+              long = simp length-set (v .long);
+              so-far = every-grow i (listedAt (orderIn states) states) (v .so-far)
+                  (rw (← there, lt-ltb e slotCount low, eq-eqb (getD states e 0) 1 k, a));
+              met-so-far = rw there (met-more i (orderIn states) met l (v .met-so-far));
+            }
+
+  pub ordering-end : n ≤ i → true ≡ orderRight (orderIn states) states n
+  unfolding orderRight
+  ordering-end h = let e : i ≡ n = omega (arith, v .low) in rw (le-leb n slotCount room) (v .so-far ∙ rw e)
+
+-- ── the queue ──
+
+-- the first i rise, and the request before place i is b
+pub record Rising (waiters : List ℕ) (n last i b : ℕ) (ok : Bool) : Type 0 where
+  pub low : i ≤ n
+  pub there : b ≡ before 0 waiters i
+  pub so-far : ok ≡ every i (λ j. waiterFits (before 0 waiters j) (getD waiters j 0 / 4) last)
+
+pub rising-start : (waiters : List ℕ) (n last : ℕ) → Rising waiters n last 0 0 true
+rising-start waiters n last = record {
+  low = omega arith;
+  there = refl;
+  so-far = every-none (λ j. waiterFits (before 0 waiters j) (getD waiters j 0 / 4) last);
+}
+
+pub queue-long : (waiters : List ℕ) (n last : ℕ) → queueLength < n → false ≡ queueRises waiters n last
+unfolding queueRises
+queue-long waiters n last h = rw (lt-leb n queueLength h)
+
+module _ (waiters : List ℕ) (n last i b : ℕ) (ok : Bool) (v : Rising waiters n last i b ok) where
+  pub rising-more : (x r : Bool) → i < n → x ≡ waiterFits b (getD waiters i 0 / 4) last → r ≡ (ok && x) → Rising waiters n last (i + 1) (getD waiters i 0 / 4) r
+  rising-more x r h e f = record {
+    low = omega arith;
+    there = rw (add-one i);
+    so-far = every-more i (λ j. waiterFits (before 0 waiters j) (getD waiters j 0 / 4) last) ok x r (v .so-far) (rw (← v .there) e) f;
+  }
+
+  pub rising-end : n ≤ queueLength → n ≤ i → ok ≡ queueRises waiters n last
+  unfolding queueRises
+  rising-end room h = let e : i ≡ n = omega (arith, v .low) in rw (le-leb n queueLength room) (v .so-far ∙ rw e)
+
+-- ── all of them ──
+
+-- each test, and then how the code joins them
+pub all-tested : (h : Head) (ns ts ss ws : List ℕ)
+    {inside options below distinct fit counts order past queue rest ids slots one listed held waiting two r : Bool}
+    → inside ≡ inRange (h .options) → options ≡ (inside && h .«next_connection_id» ≤? mostNextId)
+    → below ≡ idsBelow ns (h .«next_connection_id») → distinct ≡ idsDistinct ns → fit ≡ slotsFit ns ts ss
+    → counts ≡ countsRight ss (h .«total_connection_count») (h .«pending_connection_count») (h .«available_count»)
+    → order ≡ orderRight (orderIn ss) ss (h .«available_count») → past ≡ blankFrom slotCount (h .«available_count») (orderIn ss)
+    → queue ≡ queueRises ws (h .«waiting_count») (h .«last_request») → rest ≡ blankFrom queueLength (h .«waiting_count») ws
+    → ids ≡ (distinct && fit) → slots ≡ (below && ids) → one ≡ (options && slots)
+    → listed ≡ (order && past) → held ≡ (counts && listed) → waiting ≡ (queue && rest) → two ≡ (held && waiting) → r ≡ (one && two)
+    → r ≡ keepsRules h ns ts ss ws
+unfolding keepsRules
+all-tested h ns ts ss ws e₁ e₂ e₃ e₄ e₅ e₆ e₇ e₈ e₉ e₁₀ f₁ f₂ f₃ f₄ f₅ f₆ f₇ f₈ =
+    rw (f₈, f₃, f₇, f₂, f₁, f₅, f₄, f₆, e₂, e₁, e₃, e₄, e₅, e₆, e₇, e₈, e₉, e₁₀)

@@ -75,7 +75,10 @@ all-of P (x ∷ l) h = (h 0 (omega arith), all-of P l (λ j k. h (suc j) (omega 
 
 pub distinct-of : (l : List ℕ) → ((i j : ℕ) → i < j → j < length l → getD l i 0 ≡ getD l j 0 → ⊥) → Distinct l
 distinct-of [] h = tt
-distinct-of (x ∷ l) h = (all-of (λ y. y ≡ x → ⊥) l (λ j k e. h 0 (suc j) (omega arith) (omega arith) (sym e)), distinct-of l (λ i j a b. h (suc i) (suc j) (omega arith) (omega arith)))
+distinct-of (x ∷ l) h = (
+  all-of (λ y. y ≡ x → ⊥) l (λ j k e. h 0 (suc j) (omega arith) (omega arith) (sym e)),
+  distinct-of l (λ i j a b. h (suc i) (suc j) (omega arith) (omega arith)),
+)
 
 pub distinct-has : (l : List ℕ) → Distinct l → (i j : ℕ) → i < j → j < length l → getD l i 0 ≡ getD l j 0 → ⊥
 distinct-has [] d i j a b e = absurd (omega arith)
@@ -104,7 +107,9 @@ tally-empty t = refl
 pub tally-same : (n : ℕ) (t u : ℕ → Bool) → ((j : ℕ) → j < n → t j ≡ u j) → tally n t ≡ tally n u
 unfolding tally
 tally-same zero t u h = refl
-tally-same (suc n) t u h = let b : oneIf (t n) ≡ oneIf (u n) = ap oneIf (h n (omega arith)) in omega (arith, tally-same n t u (λ j k. h j (omega arith)))
+tally-same (suc n) t u h =
+    let b : oneIf (t n) ≡ oneIf (u n) = ap oneIf (h n (omega arith)) in
+    omega (arith, tally-same n t u (λ j k. h j (omega arith)))
 
 none-collected : (t : Class) (ss : List Slot) → many t [] ss ≡ 0
 unfolding collect
@@ -114,7 +119,8 @@ abbrev pub kinds : Class → List Slot → ℕ → Bool
 kinds t ss j = t (getD ss j vacant .state)
 
 -- as many are collected as are of the class, where no vacant slot is
-pub many-tally : (t : Class) (xs : List ℕ) (ss : List Slot) → length ss ≡ length xs → ((j : ℕ) → getD xs j 0 ≡ 0 → kinds t ss j ≡ false) → many t xs ss ≡ tally (length xs) (kinds t ss)
+pub many-tally : (t : Class) (xs : List ℕ) (ss : List Slot) → length ss ≡ length xs → ((j : ℕ) → getD xs j 0 ≡ 0 → kinds t ss j ≡ false)
+    → many t xs ss ≡ tally (length xs) (kinds t ss)
 many-tally t [] ss l h = none-collected t ss ∙ sym (tally-empty (kinds t ss))
 many-tally t (x ∷ xs) [] l h = absurd (omega arith)
 many-tally t (x ∷ xs) (s ∷ ss) l h =
@@ -129,7 +135,8 @@ unfolding taken
 no-taken = refl
 
 -- as many ids as taken slots
-pub taken-tally : (xs : List ℕ) (ss : List Slot) → length ss ≡ length xs → ((j : ℕ) → getD xs j 0 ≡ 0 → kinds isTaken ss j ≡ false) → ((j : ℕ) → 0 < getD xs j 0 → kinds isTaken ss j ≡ true) → taken xs ≡ tally (length xs) (kinds isTaken ss)
+pub taken-tally : (xs : List ℕ) (ss : List Slot) → length ss ≡ length xs → ((j : ℕ) → getD xs j 0 ≡ 0 → kinds isTaken ss j ≡ false)
+    → ((j : ℕ) → 0 < getD xs j 0 → kinds isTaken ss j ≡ true) → taken xs ≡ tally (length xs) (kinds isTaken ss)
 taken-tally [] ss l h k = no-taken ∙ sym (tally-empty (kinds isTaken ss))
 taken-tally (x ∷ xs) [] l h k = absurd (omega arith)
 taken-tally (x ∷ xs) (s ∷ ss) l h k =
@@ -145,12 +152,17 @@ before-next : (b x : ℕ) (l : List ℕ) (j : ℕ) → before (x / 4) l j ≡ be
 before-next b x l zero = refl
 before-next b x l (suc j) = refl
 
-pub rises-of : (b last : ℕ) (l : List ℕ) → ((j : ℕ) → j < length l → (before b l j < getD l j 0 / 4) × (getD l j 0 / 4 ≤ last)) → Rises b last (map waiterOf l)
+pub rises-of : (b last : ℕ) (l : List ℕ) → ((j : ℕ) → j < length l → (before b l j < getD l j 0 / 4) × (getD l j 0 / 4 ≤ last))
+    → Rises b last (map waiterOf l)
 rises-of b last [] h = tt
-rises-of b last (x ∷ l) h =
-    (h 0 (omega arith) .0, h 0 (omega arith) .1, rises-of (x / 4) last l (λ j k. let r = h (suc j) (omega arith) in (omega (arith, before-next b x l j, r .0), r .1)))
+rises-of b last (x ∷ l) h = (
+  h 0 (omega arith) .0,
+  h 0 (omega arith) .1,
+  rises-of (x / 4) last l (λ j k. let r = h (suc j) (omega arith) in (omega (arith, before-next b x l j, r .0), r .1)),
+)
 
-pub rises-at : (b last : ℕ) (l : List ℕ) → Rises b last (map waiterOf l) → (j : ℕ) → j < length l → (before b l j < getD l j 0 / 4) × (getD l j 0 / 4 ≤ last)
+pub rises-at : (b last : ℕ) (l : List ℕ) → Rises b last (map waiterOf l) → (j : ℕ) → j < length l
+    → (before b l j < getD l j 0 / 4) × (getD l j 0 / 4 ≤ last)
 rises-at b last [] r j h = absurd (omega arith)
 rises-at b last (x ∷ l) r zero h = (r .0, r .1)
 rises-at b last (x ∷ l) r (suc j) h = let q = rises-at (x / 4) last l (r .2) j (omega arith) in (omega (arith, before-next b x l j, q .0), q .1)

@@ -4,18 +4,17 @@ use mathlib.Core.Bool.{Bool, true, false, not, _&&_, false≢true}
 use mathlib.Core.List.{List, map}
 use Prim.Native.Nat.{ℕ, zero, suc, _+_, _/_, _≤_, _<_}
 use native.Mathlib.Omega.{arith}
-use lib.ListN.{length, getD, take, drop}
+use lib.ListN.{length, getD, take}
 use lib.Seq.{getD-take, length-take-le}
-use Rattle.slots.specs.Columns.{first-at}
 use borrow.Author.Tests.{lt-ltb, le-ltb, le-leb, eq-eqb, ne-eqb, ltb-true, leb-true, eqb-true}
+use Rattle.slots.specs.Columns.{first-at}
 use Rattle.definition.specs.Words.{if_then_else_, _=?_, _<?_, _≤?_}
 use Rattle.definition.specs.Pool.{queueLength, inRange, slotCount}
 use Rattle.definition.specs.Refusals.{mostNextId}
 use Rattle.definition.specs.declared.Options.{Options}
 use Rattle.slots.specs.declared.Head.{Head}
-use Rattle.slots.specs.View.{slot, SlotPool, Slot, poolOf, Whole, waiterOf, vacant, idsIn, orderIn}
+use Rattle.slots.specs.View.{SlotPool, Slot, poolOf, Whole, waiterOf, idsIn, orderIn, slot, vacant}
 use Rattle.slots.specs.View as View
-use Rattle.slots.specs.Slots as S
 use Rattle.slots.specs.Needs.{taken}
 use Rattle.slots.specs.Parts.{slot-at}
 use Rattle.refinement.specs.Table.{by-eq, by-lt, Unique}
@@ -33,7 +32,13 @@ use Rattle.rules.specs.Every.{and-left, and-right, both-true, or-other, 
 options-pass : (o : Options) → Limits o → inRange o ≡ true
 unfolding inRange
 options-pass o l =
-    both-true (both-true (both-true (both-true (le-leb 1 (o .maximum) (l .one)) (le-leb (o .maximum) slotCount (l .maximum))) (le-leb (o .minimum) (o .maximum) (l .minimum))) (le-leb 1 (o .connecting) (l .connecting .0))) (le-leb (o .connecting) slotCount (l .connecting .1))
+    both-true
+    (both-true
+    (both-true
+    (both-true (le-leb 1 (o .maximum) (l .one)) (le-leb (o .maximum) slotCount (l .maximum)))
+    (le-leb (o .minimum) (o .maximum) (l .minimum)))
+    (le-leb 1 (o .connecting) (l .connecting .0)))
+    (le-leb (o .connecting) slotCount (l .connecting .1))
 
 -- ── Ids ────────────────────────────────────────────────────────────────────────────────────────────────────────────────
 
@@ -41,25 +46,32 @@ module _ (cs : List ℕ) (l : length (idsIn cs) ≡ slotCount) where
   below-say : (next : ℕ) → idsBelow cs next ≡ true → (j : ℕ) → getD (idsIn cs) j 0 < next
   unfolding idsBelow
   below-say next h j =
-      let at : (i : ℕ) → i < slotCount → getD cs i 0 < next = λ i k. ltb-true (getD cs i 0) next (every-all slotCount (λ i. getD cs i 0 <? next) h i k) in
-      by-lt j slotCount (λ k. omega (arith, first-at cs j k, at j k)) (λ k. omega (arith, past (idsIn cs) 0 j (omega arith), at 0 (omega arith)))
+      let at : (i : ℕ) → i < slotCount → getD cs i 0 < next =
+      λ i k. ltb-true (getD cs i 0) next (every-all slotCount (λ i. getD cs i 0 <? next) h i k) in
+      by-lt j slotCount
+      (λ k. omega (arith, first-at cs j k, at j k))
+      (λ k. omega (arith, past (idsIn cs) 0 j (omega arith), at 0 (omega arith)))
 
   below-pass : (next : ℕ) → ((j : ℕ) → getD (idsIn cs) j 0 < next) → idsBelow cs next ≡ true
   unfolding idsBelow
-  below-pass next h = all-every slotCount (λ i. getD cs i 0 <? next) (λ j k. lt-ltb (getD cs j 0) next (omega (arith, first-at cs j k, h j)))
+  below-pass next h =
+      all-every slotCount (λ i. getD cs i 0 <? next) (λ j k. lt-ltb (getD cs j 0) next (omega (arith, first-at cs j k, h j)))
 
   new-say : idsDistinct cs ≡ true → (i j : ℕ) → i < j → j < slotCount → 0 < getD cs j 0 → getD cs i 0 ≡ getD cs j 0 → ⊥
   unfolding idsDistinct
   new-say h i j k low z e =
-      let n : getD cs j 0 ≡ 0 → ⊥ = λ q. omega arith in
-      not-among (getD cs j 0) j cs (or-other (getD cs j 0 =? 0) (not (among (getD cs j 0) j cs)) (ne-eqb (getD cs j 0) 0 n) (every-all slotCount (newId cs) h j low)) i k e
+      let x : ℕ = getD cs j 0 in
+      let n : x ≡ 0 → ⊥ = λ q. omega arith in
+      not-among x j cs (or-other (x =? 0) (not (among x j cs)) (ne-eqb x 0 n) (every-all slotCount (newId cs) h j low)) i k e
 
   distinct-say : idsDistinct cs ≡ true → Unique (idsIn cs)
   distinct-say h i j a b z e =
       let x = first-at cs i (omega arith) in
       let y = first-at cs j (omega arith) in
       let s : getD cs i 0 ≡ getD cs j 0 = sym x ∙ e ∙ y in
-      by-eq i j (λ q. q) (λ q. by-lt i j (λ k. absurd (new-say h i j k (omega arith) (omega (arith, x)) s)) (λ k. absurd (new-say h j i (omega (arith, q)) (omega arith) (omega (arith, x)) (sym s))))
+      by-eq i j (λ q. q) (λ q. by-lt i j
+      (λ k. absurd (new-say h i j k (omega arith) (omega (arith, x)) s))
+      (λ k. absurd (new-say h j i (omega (arith, q)) (omega arith) (omega (arith, x)) (sym s))))
 
   distinct-pass : Unique (idsIn cs) → idsDistinct cs ≡ true
   unfolding idsDistinct
@@ -87,7 +99,10 @@ vacant-say : (id g t k : ℕ) → id ≡ 0 → slotFits id g t k ≡ true → _�
 vacant-say id g t k e h =
     let f : (k =? 0 && (g =? 0 && t =? 0)) ≡ true = sym (fits-vacant id g t k e) ∙ h in
     let r = and-right (k =? 0) (g =? 0 && t =? 0) f in
-    made g t k (eqb-true g 0 (and-left (g =? 0) (t =? 0) r)) (eqb-true t 0 (and-right (g =? 0) (t =? 0) r)) (eqb-true k 0 (and-left (k =? 0) (g =? 0 && t =? 0) f))
+    made g t k
+    (eqb-true g 0 (and-left (g =? 0) (t =? 0) r))
+    (eqb-true t 0 (and-right (g =? 0) (t =? 0) r))
+    (eqb-true k 0 (and-left (k =? 0) (g =? 0 && t =? 0) f))
 
 used-say : (id g t k : ℕ) → 0 < id → slotFits id g t k ≡ true → (0 < k) × (k ≤ 6)
 used-say id g t k z h =
@@ -97,6 +112,13 @@ used-say id g t k z h =
 module _ (h : Head) (cs ts ss ws : List ℕ) (w : Whole (poolOf h cs ts ss ws)) where
   abbrev P : SlotPool
   P = poolOf h cs ts ss ws
+
+  -- every slot with no id is vacant; every other is in a state of a connection
+  abbrev Blank : Type 0
+  Blank = (j : ℕ) → View.idAt P j ≡ 0 → View.slotAt P j ≡ vacant
+
+  abbrev InUse : Type 0
+  InUse = (j : ℕ) → 0 < View.idAt P j → Used (View.slotAt P j)
 
   id-of : (j : ℕ) → j < slotCount → View.idAt P j ≡ getD cs j 0
   id-of j low = first-at cs j low
@@ -108,90 +130,118 @@ module _ (h : Head) (cs ts ss ws : List ℕ) (w : Whole (poolOf h cs ts ss ws)) 
   unfolding slotsFit
   fit-at f = every-all slotCount (λ i. slotFits (getD cs i 0) (getD cs (slotCount + i) 0) (getD ts i 0) (getD ss i 0)) f
 
-  slots-blank : slotsFit cs ts ss ≡ true → (j : ℕ) → View.idAt P j ≡ 0 → View.slotAt P j ≡ vacant
+  slots-blank : slotsFit cs ts ss ≡ true → Blank
   slots-blank f j e =
       by-lt j slotCount
-      (λ k. slot-at h cs ts ss ws w j k ∙ vacant-say (getD cs j 0) (getD cs (slotCount + j) 0) (getD ts j 0) (getD ss j 0) (sym (id-of j k) ∙ e) (fit-at f j k))
+      (λ k. slot-at h cs ts ss ws w j k
+      ∙ vacant-say (getD cs j 0) (getD cs (slotCount + j) 0) (getD ts j 0) (getD ss j 0) (sym (id-of j k) ∙ e) (fit-at f j k))
       (λ k. past (P .slots) vacant j (omega (arith, w .slots)))
 
-  slots-used : slotsFit cs ts ss ≡ true → (j : ℕ) → 0 < View.idAt P j → Used (View.slotAt P j)
+  slots-used : slotsFit cs ts ss ≡ true → InUse
   slots-used f j z =
       by-lt j slotCount
-      (λ k. let r = used-say (getD cs j 0) (getD cs (slotCount + j) 0) (getD ts j 0) (getD ss j 0) (omega (arith, id-of j k)) (fit-at f j k) in (omega (arith, state-of j k, r .0), omega (arith, state-of j k, r .1)))
+      (λ k. let r = used-say (getD cs j 0) (getD cs (slotCount + j) 0) (getD ts j 0) (getD ss j 0) (omega (arith, id-of j k)) (fit-at f j k) in
+      (omega (arith, state-of j k, r .0), omega (arith, state-of j k, r .1)))
       (λ k. absurd (omega (arith, past (P .ids) 0 j (omega (arith, w .ids)))))
 
-  slots-pass : ((j : ℕ) → View.idAt P j ≡ 0 → View.slotAt P j ≡ vacant) → ((j : ℕ) → 0 < View.idAt P j → Used (View.slotAt P j)) → slotsFit cs ts ss ≡ true
+  slots-pass : Blank → InUse → slotsFit cs ts ss ≡ true
   unfolding slotsFit
-  slots-pass b u = all-every slotCount (λ i. slotFits (getD cs i 0) (getD cs (slotCount + i) 0) (getD ts i 0) (getD ss i 0)) (λ j k.
-      let g = getD cs (slotCount + j) 0 in
-      let t = getD ts j 0 in
-      let s = getD ss j 0 in
-      by-eq (getD cs j 0) 0
-      (λ e. let v : _≡_ {A = Slot} (slot g t s) vacant = sym (slot-at h cs ts ss ws w j k) ∙ b j (id-of j k ∙ e) in
-      fits-vacant (getD cs j 0) g t s e ∙ both-true (eq-eqb s 0 (ap (λ (x : Slot). x .state) v)) (both-true (eq-eqb g 0 (ap (λ (x : Slot). x .generation) v)) (eq-eqb t 0 (ap (λ (x : Slot). x .time) v))))
-      (λ e. let r = u j (omega (arith, e, id-of j k)) in
-      fits-used (getD cs j 0) g t s (omega (arith, e)) ∙ both-true (le-leb 1 s (omega (arith, state-of j k, r .0))) (le-leb s 6 (omega (arith, state-of j k, r .1)))))
+  slots-pass b u =
+      all-every slotCount (λ i. slotFits (getD cs i 0) (getD cs (slotCount + i) 0) (getD ts i 0) (getD ss i 0)) (λ j k.
+      by-eq (getD cs j 0) 0 (λ e. vacant-pass b j k e) (λ e. used-pass u j k e))
+    where
+      vacant-pass : Blank → (j : ℕ) → j < slotCount → getD cs j 0 ≡ 0
+          → slotFits (getD cs j 0) (getD cs (slotCount + j) 0) (getD ts j 0) (getD ss j 0) ≡ true
+      vacant-pass b j k e =
+          let g = getD cs (slotCount + j) 0 in
+          let t = getD ts j 0 in
+          let s = getD ss j 0 in
+          let v : _≡_ {A = Slot} (slot g t s) vacant = sym (slot-at h cs ts ss ws w j k) ∙ b j (id-of j k ∙ e) in
+          fits-vacant (getD cs j 0) g t s e
+          ∙ both-true (eq-eqb s 0 (ap (λ (x : Slot). x .state) v))
+          (both-true (eq-eqb g 0 (ap (λ (x : Slot). x .generation) v)) (eq-eqb t 0 (ap (λ (x : Slot). x .time) v)))
+
+      used-pass : InUse → (j : ℕ) → j < slotCount → (getD cs j 0 ≡ 0 → ⊥)
+          → slotFits (getD cs j 0) (getD cs (slotCount + j) 0) (getD ts j 0) (getD ss j 0) ≡ true
+      used-pass u j k e =
+          let r = u j (omega (arith, e, id-of j k)) in
+          fits-used (getD cs j 0) (getD cs (slotCount + j) 0) (getD ts j 0) (getD ss j 0) (omega (arith, e))
+          ∙ both-true (le-leb 1 (getD ss j 0) (omega (arith, state-of j k, r .0))) (le-leb (getD ss j 0) 6 (omega (arith, state-of j k, r .1)))
 
   -- ── Counts ──
 
   states-counted : (t : Class) → howMany t ss ≡ tally (length (P .ids)) (kinds t (P .slots))
-  states-counted t = tally-same slotCount (λ i. t (getD ss i 0)) (kinds t (P .slots)) (λ j k. ap t (sym (state-of j k))) ∙ ap (λ (n : ℕ). tally n (kinds t (P .slots))) (sym (w .ids))
+  states-counted t =
+      tally-same slotCount (λ i. t (getD ss i 0)) (kinds t (P .slots)) (λ j k. ap t (sym (state-of j k)))
+      ∙ ap (λ (n : ℕ). tally n (kinds t (P .slots))) (sym (w .ids))
 
-  module _ (b : (j : ℕ) → View.idAt P j ≡ 0 → View.slotAt P j ≡ vacant) where
+  module _ (b : Blank) where
     how-many : (t : Class) → t 0 ≡ false → howMany t ss ≡ many t (P .ids) (P .slots)
-    how-many t f = states-counted t ∙ sym (many-tally t (P .ids) (P .slots) (omega (arith, w .ids, w .slots)) (λ j e. ap (λ (s : Slot). t (s .state)) (b j e) ∙ f))
+    how-many t f =
+        states-counted t
+        ∙ sym (many-tally t (P .ids) (P .slots) (omega (arith, w .ids, w .slots)) (λ j e. ap (λ (s : Slot). t (s .state)) (b j e) ∙ f))
 
-    how-taken : ((j : ℕ) → 0 < View.idAt P j → Used (View.slotAt P j)) → howMany isTaken ss ≡ taken (P .ids)
+    how-taken : InUse → howMany isTaken ss ≡ taken (P .ids)
     how-taken u = states-counted isTaken ∙ sym (taken-tally (P .ids) (P .slots) (omega (arith, w .ids, w .slots))
         (λ j e. ap (λ (s : Slot). isTaken (s .state)) (b j e))
         (λ j z. ap not (ne-eqb (View.slotAt P j .state) 0 (λ q. omega (arith, u j z .0)))))
 
   -- ── The order list ──
 
-  order-fits : orderRight (orderIn ss) ss (h .«available_count») ≡ true → h .«available_count» ≤ slotCount
+  abbrev n : ℕ
+  n = h .«available_count»
+
+  abbrev order : List ℕ
+  order = orderIn ss
+
+  order-fits : orderRight order ss n ≡ true → n ≤ slotCount
   unfolding orderRight
-  order-fits t = leb-true (h .«available_count») slotCount (and-left (h .«available_count» ≤? slotCount) (every (h .«available_count») (listedAt (orderIn ss) ss)) t)
+  order-fits t = leb-true n slotCount (and-left (n ≤? slotCount) (every n (listedAt order ss)) t)
 
-  order-at : orderRight (orderIn ss) ss (h .«available_count») ≡ true → (j : ℕ) → j < h .«available_count» → listedAt (orderIn ss) ss j ≡ true
+  order-at : orderRight order ss n ≡ true → (j : ℕ) → j < n → listedAt order ss j ≡ true
   unfolding orderRight
-  order-at t = every-all (h .«available_count») (listedAt (orderIn ss) ss) (and-right (h .«available_count» ≤? slotCount) (every (h .«available_count») (listedAt (orderIn ss) ss)) t)
+  order-at t = every-all n (listedAt order ss) (and-right (n ≤? slotCount) (every n (listedAt order ss)) t)
 
-  order-long : h .«available_count» ≤ slotCount → length (take (h .«available_count») (orderIn ss)) ≡ h .«available_count»
-  order-long f = length-take-le (h .«available_count») (orderIn ss) (omega (arith, w .available))
+  order-long : n ≤ slotCount → length (take n order) ≡ n
+  order-long f = length-take-le n order (omega (arith, w .available))
 
-  order-listed : ((j : ℕ) → View.idAt P j ≡ 0 → View.slotAt P j ≡ vacant) → orderRight (orderIn ss) ss (h .«available_count») ≡ true → All (Listed (P .ids) (P .slots)) (take (h .«available_count») (orderIn ss))
+  -- a slot that is checked in has an id
+  shelved-used : Blank → (e : ℕ) → View.slotAt P e .state ≡ 1 → 0 < View.idAt P e
+  shelved-used b e s =
+      by-eq {A = 0 < View.idAt P e} (View.idAt P e) 0
+      (λ z. absurd (omega (arith, s, ap (λ (x : Slot). x .state) (b e z))))
+      (λ z. omega (arith, z))
+
+  order-listed : Blank → orderRight order ss n ≡ true → All (Listed (P .ids) (P .slots)) (take n order)
   order-listed b t =
-      let n = h .«available_count» in
-      let a = orderIn ss in
-      all-of (Listed (P .ids) (P .slots)) (take n a) (λ j k.
+      all-of (Listed (P .ids) (P .slots)) (take n order) (λ j k.
       let low : j < n = omega (arith, order-long (order-fits t)) in
-      let e = getD a j 0 in
+      let e : ℕ = getD order j 0 in
       let q = order-at t j low in
-      let r = and-right (e <? slotCount) (isShelved (getD ss e 0) && not (among e j a)) q in
-      let i : e < slotCount = ltb-true e slotCount (and-left (e <? slotCount) (isShelved (getD ss e 0) && not (among e j a)) q) in
-      let s : View.slotAt P e .state ≡ 1 = state-of e i ∙ eqb-true (getD ss e 0) 1 (and-left (isShelved (getD ss e 0)) (not (among e j a)) r) in
-      rw (getD-take n a j 0 low) (i, by-eq (View.idAt P e) 0 (λ z. absurd (omega (arith, s, ap (λ (x : Slot). x .state) (b e z)))) (λ z. omega (arith, z)), s))
+      let r = and-right (e <? slotCount) (isShelved (getD ss e 0) && not (among e j order)) q in
+      let i : e < slotCount = ltb-true e slotCount (and-left (e <? slotCount) (isShelved (getD ss e 0) && not (among e j order)) q) in
+      let s : View.slotAt P e .state ≡ 1 = state-of e i ∙ eqb-true (getD ss e 0) 1 (and-left (isShelved (getD ss e 0)) (not (among e j order)) r) in
+      rw (getD-take n order j 0 low) (i, shelved-used b e s, s))
 
-  order-distinct : orderRight (orderIn ss) ss (h .«available_count») ≡ true → Distinct (take (h .«available_count») (orderIn ss))
+  order-distinct : orderRight order ss n ≡ true → Distinct (take n order)
   order-distinct t =
-      let n = h .«available_count» in
-      let a = orderIn ss in
-      distinct-of (take n a) (λ i j k m e.
+      distinct-of (take n order) (λ i j k m e.
       let low : j < n = omega (arith, order-long (order-fits t)) in
-      let x = getD a j 0 in
-      let r = and-right (x <? slotCount) (isShelved (getD ss x 0) && not (among x j a)) (order-at t j low) in
-      not-among x j a (and-right (isShelved (getD ss x 0)) (not (among x j a)) r) i k (sym (getD-take n a i 0 (omega arith)) ∙ e ∙ getD-take n a j 0 low))
+      let x : ℕ = getD order j 0 in
+      let r = and-right (x <? slotCount) (isShelved (getD ss x 0) && not (among x j order)) (order-at t j low) in
+      not-among x j order (and-right (isShelved (getD ss x 0)) (not (among x j order)) r) i k
+      (sym (getD-take n order i 0 (omega arith)) ∙ e ∙ getD-take n order j 0 low))
 
-  order-pass : h .«available_count» ≤ slotCount → All (Listed (P .ids) (P .slots)) (take (h .«available_count») (orderIn ss)) → Distinct (take (h .«available_count») (orderIn ss)) → orderRight (orderIn ss) ss (h .«available_count») ≡ true
+  order-pass : n ≤ slotCount → All (Listed (P .ids) (P .slots)) (take n order) → Distinct (take n order) → orderRight order ss n ≡ true
   unfolding orderRight
   order-pass f al d =
-      let n = h .«available_count» in
-      let a = orderIn ss in
-      both-true (le-leb n slotCount f) (all-every n (listedAt a ss) (λ j low.
-      let k : j < length (take n a) = omega (arith, order-long f) in
-      let v : Listed (P .ids) (P .slots) (getD a j 0) = rw (getD-take n a j 0 low) at (all-at (Listed (P .ids) (P .slots)) (take n a) al j k) in
-      both-true (lt-ltb (getD a j 0) slotCount (v .0)) (both-true (eq-eqb (getD ss (getD a j 0) 0) 1 (sym (state-of (getD a j 0) (v .0)) ∙ v .2)) (new-among (getD a j 0) j a (λ i q e.
-      distinct-has (take n a) d i j q k (getD-take n a i 0 (omega arith) ∙ e ∙ sym (getD-take n a j 0 low)))))))
+      both-true (le-leb n slotCount f) (all-every n (listedAt order ss) (λ j low.
+      let x : ℕ = getD order j 0 in
+      let k : j < length (take n order) = omega (arith, order-long f) in
+      let v : Listed (P .ids) (P .slots) x = rw (getD-take n order j 0 low) at (all-at (Listed (P .ids) (P .slots)) (take n order) al j k) in
+      both-true (lt-ltb x slotCount (v .0))
+      (both-true (eq-eqb (getD ss x 0) 1 (sym (state-of x (v .0)) ∙ v .2))
+      (new-among x j order (λ i q e. distinct-has (take n order) d i j q k (getD-take n order i 0 (omega arith) ∙ e ∙ sym (getD-take n order j 0 low)))))))
 
 counts-say : (ss : List ℕ) (total pending available : ℕ) → countsRight ss total pending available ≡ true
     → (howMany isTaken ss ≡ total) × (howMany isPending ss ≡ pending) × (howMany isShelved ss ≡ available)
@@ -203,9 +253,11 @@ counts-say ss t p a h =
       eqb-true (howMany isShelved ss) a (and-right (howMany isPending ss =? p) (howMany isShelved ss =? a) r),
     )
 
-counts-pass : (ss : List ℕ) (total pending available : ℕ) → howMany isTaken ss ≡ total → howMany isPending ss ≡ pending → howMany isShelved ss ≡ available → countsRight ss total pending available ≡ true
+counts-pass : (ss : List ℕ) (total pending available : ℕ) → howMany isTaken ss ≡ total → howMany isPending ss ≡ pending
+    → howMany isShelved ss ≡ available → countsRight ss total pending available ≡ true
 unfolding countsRight
-counts-pass ss t p a x y z = both-true (eq-eqb (howMany isTaken ss) t x) (both-true (eq-eqb (howMany isPending ss) p y) (eq-eqb (howMany isShelved ss) a z))
+counts-pass ss t p a x y z =
+    both-true (eq-eqb (howMany isTaken ss) t x) (both-true (eq-eqb (howMany isPending ss) p y) (eq-eqb (howMany isShelved ss) a z))
 
 -- ── Cells past a count ─────────────────────────────────────────────────────────────────────────────────────────────────
 
@@ -218,7 +270,10 @@ blank-say size n l e h j k =
 
 blank-pass : (size n : ℕ) (l : List ℕ) → ((j : ℕ) → n ≤ j → getD l j 0 ≡ 0) → blankFrom size n l ≡ true
 unfolding blankFrom
-blank-pass size n l h = all-every size (λ i. blankPast n i (getD l i 0)) (λ j k. by-lt j n (λ q. rw (lt-ltb j n q)) (λ q. rw (le-ltb j n q) (eq-eqb (getD l j 0) 0 (h j q))))
+blank-pass size n l h =
+    all-every size (λ i. blankPast n i (getD l i 0)) (λ j k. by-lt j n
+    (λ q. rw (lt-ltb j n q))
+    (λ q. rw (le-ltb j n q) (eq-eqb (getD l j 0) 0 (h j q))))
 
 -- ── The queue ──────────────────────────────────────────────────────────────────────────────────────────────────────────
 
@@ -227,27 +282,37 @@ before-take b n l zero h = refl
 before-take b n l (suc j) h = ap (λ (x : ℕ). x / 4) (getD-take n l j 0 (omega arith))
 
 module _ (ws : List ℕ) (n last : ℕ) (l : length ws ≡ queueLength) where
+  abbrev fitsAt : ℕ → Bool
+  fitsAt i = waiterFits (before 0 ws i) (getD ws i 0 / 4) last
+
   queue-fits : queueRises ws n last ≡ true → n ≤ queueLength
   unfolding queueRises
-  queue-fits h = leb-true n queueLength (and-left (n ≤? queueLength) (every n (λ i. waiterFits (before 0 ws i) (getD ws i 0 / 4) last)) h)
+  queue-fits h = leb-true n queueLength (and-left (n ≤? queueLength) (every n fitsAt) h)
+
+  queue-at : queueRises ws n last ≡ true → (j : ℕ) → j < n → fitsAt j ≡ true
+  unfolding queueRises
+  queue-at h = every-all n fitsAt (and-right (n ≤? queueLength) (every n fitsAt) h)
 
   queue-long : n ≤ queueLength → length (take n ws) ≡ n
   queue-long h = length-take-le n ws (omega arith)
 
   queue-say : queueRises ws n last ≡ true → Rises 0 last (map waiterOf (take n ws))
-  unfolding queueRises
   queue-say h = rises-of 0 last (take n ws) (λ j k.
-      let f : n ≤ queueLength = leb-true n queueLength (and-left (n ≤? queueLength) (every n (λ i. waiterFits (before 0 ws i) (getD ws i 0 / 4) last)) h) in
-      let low : j < n = omega (arith, queue-long f) in
-      let x = getD ws j 0 / 4 in
-      let t = every-all n (λ i. waiterFits (before 0 ws i) (getD ws i 0 / 4) last) (and-right (n ≤? queueLength) (every n (λ i. waiterFits (before 0 ws i) (getD ws i 0 / 4) last)) h) j low in
-      rw (before-take 0 n ws j low, getD-take n ws j 0 low) (ltb-true (before 0 ws j) x (and-left (before 0 ws j <? x) (x ≤? last) t), leb-true x last (and-right (before 0 ws j <? x) (x ≤? last) t)))
+      let low : j < n = omega (arith, queue-long (queue-fits h)) in
+      let b : ℕ = before 0 ws j in
+      let x : ℕ = getD ws j 0 / 4 in
+      let t = queue-at h j low in
+      rw (before-take 0 n ws j low, getD-take n ws j 0 low)
+      (ltb-true b x (and-left (b <? x) (x ≤? last) t), leb-true x last (and-right (b <? x) (x ≤? last) t)))
 
   queue-pass : n ≤ queueLength → Rises 0 last (map waiterOf (take n ws)) → queueRises ws n last ≡ true
   unfolding queueRises
-  queue-pass f r = both-true (le-leb n queueLength f) (all-every n (λ i. waiterFits (before 0 ws i) (getD ws i 0 / 4) last) (λ j low.
-      let v : (before 0 ws j < getD ws j 0 / 4) × (getD ws j 0 / 4 ≤ last) = rw (before-take 0 n ws j low, getD-take n ws j 0 low) at (rises-at 0 last (take n ws) r j (omega (arith, queue-long f))) in
-      both-true (lt-ltb (before 0 ws j) (getD ws j 0 / 4) (v .0)) (le-leb (getD ws j 0 / 4) last (v .1))))
+  queue-pass f r = both-true (le-leb n queueLength f) (all-every n fitsAt (λ j low.
+      let b : ℕ = before 0 ws j in
+      let x : ℕ = getD ws j 0 / 4 in
+      let v : (b < x) × (x ≤ last) =
+      rw (before-take 0 n ws j low, getD-take n ws j 0 low) at (rises-at 0 last (take n ws) r j (omega (arith, queue-long f))) in
+      both-true (lt-ltb b x (v .0)) (le-leb x last (v .1))))
 
 -- ── All of them ────────────────────────────────────────────────────────────────────────────────────────────────────────
 
@@ -261,8 +326,18 @@ ten a b c d e f g i j k q =
     let de = and-right c (d && e) ce in
     let fi = and-left (f && (g && i)) (j && k) y in
     let jk = and-right (f && (g && i)) (j && k) y in
-    let gi = and-right f (g && i) fi in
-    (and-left a b ab, and-right a b ab, and-left c (d && e) ce, and-left d e de, and-right d e de, and-left f (g && i) fi, and-left g i gi, and-right g i gi, and-left j k jk, and-right j k jk)
+    let gi = and-right f (g && i) fi in (
+      and-left a b ab,
+      and-right a b ab,
+      and-left c (d && e) ce,
+      and-left d e de,
+      and-right d e de,
+      and-left f (g && i) fi,
+      and-left g i gi,
+      and-right g i gi,
+      and-left j k jk,
+      and-right j k jk,
+    )
 
 module _ (h : Head) (cs ts ss ws : List ℕ) (w : Whole (poolOf h cs ts ss ws)) where
   -- what passes the test keeps the rules
@@ -273,7 +348,9 @@ module _ (h : Head) (cs ts ss ws : List ℕ) (w : Whole (poolOf h cs ts ss ws)) 
       let n = h .«available_count» in
       let m = h .«waiting_count» in
       let t = ten (inRange (h .options)) (next ≤? mostNextId) (idsBelow cs next) (idsDistinct cs) (slotsFit cs ts ss)
-      (countsRight ss (h .«total_connection_count») (h .«pending_connection_count») n) (orderRight (orderIn ss) ss n) (blankFrom slotCount n (orderIn ss)) (queueRises ws m (h .«last_request»)) (blankFrom queueLength m ws) q in
+      (countsRight ss (h .«total_connection_count») (h .«pending_connection_count») n)
+      (orderRight (orderIn ss) ss n) (blankFrom slotCount n (orderIn ss))
+      (queueRises ws m (h .«last_request»)) (blankFrom queueLength m ws) q in
       let b = slots-blank h cs ts ss ws w (t .4) in
       let u = slots-used h cs ts ss ws w (t .4) in
       let c = counts-say ss (h .«total_connection_count») (h .«pending_connection_count») n (t .5) in
@@ -308,7 +385,8 @@ module _ (h : Head) (cs ts ss ws : List ℕ) (w : Whole (poolOf h cs ts ss ws)) 
       both-true
       (both-true
       (both-true (options-pass (h .options) (r .limits)) (le-leb next (mostNextId) (r .numbers)))
-      (both-true (below-pass cs (w .ids) next (r .below)) (both-true (distinct-pass cs (w .ids) (r .unique)) (slots-pass h cs ts ss ws w (r .blank) (r .used)))))
+      (both-true (below-pass cs (w .ids) next (r .below))
+      (both-true (distinct-pass cs (w .ids) (r .unique)) (slots-pass h cs ts ss ws w (r .blank) (r .used)))))
       (both-true
       (both-true
       (counts-pass ss (h .«total_connection_count») (h .«pending_connection_count») n
@@ -325,7 +403,8 @@ pub record Exactly (r : Bool) (p : SlotPool) : Type 0 where
   pub sound : r ≡ true → Rules p
   pub complete : Rules p → r ≡ true
 
-pub exactly : (h : Head) (cs ts ss ws : List ℕ) (r : Bool) → Whole (poolOf h cs ts ss ws) → h .serial < 4294967296 → r ≡ keepsRules h cs ts ss ws → Exactly r (poolOf h cs ts ss ws)
+pub exactly : (h : Head) (cs ts ss ws : List ℕ) (r : Bool) → Whole (poolOf h cs ts ss ws) → h .serial < 4294967296
+    → r ≡ keepsRules h cs ts ss ws → Exactly r (poolOf h cs ts ss ws)
 exactly h cs ts ss ws r w low e = record {
   sound = λ q. sound h cs ts ss ws w low (sym e ∙ q);
   complete = λ k. e ∙ complete h cs ts ss ws w k;

@@ -2,8 +2,8 @@
 use mathlib.Core.Bool.{Bool, true, false, not, _&&_, _||_}
 use mathlib.Core.List.{List}
 use Prim.Native.Nat.{ℕ, zero, suc, _+_, _/_}
-use lib.ListN.{getD, drop}
-use Rattle.slots.specs.View.{orderIn}
+use lib.ListN.{getD}
+use Rattle.slots.specs.View.{orderIn, slot}
 use Rattle.definition.specs.Words.{if_then_else_, _=?_, _<?_, _≤?_}
 use Rattle.definition.specs.Pool.{queueLength, slotCount, inRange}
 use Rattle.definition.specs.Refusals.{mostNextId}

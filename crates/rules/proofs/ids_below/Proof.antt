@@ -1,23 +1,22 @@
-use mathlib.Core.Path.{_≡_}
-use Prim.Native.Nat.{_≤_, _-_}
+use Prim.Native.Nat.{_-_}
 use native.Mathlib.Omega.{arith}
 use lib.ListN.{getD}
 use Rattle.definition.specs.Pool.{slotCount}
 use Rattle.definition.specs.Words.{_<?_}
-use Rattle.rules.specs.Tests.{every, idsBelow}
-use Rattle.rules.proofs.Laws.{every-more, every-none}
+use Rattle.rules.specs.Tests.{idsBelow}
+use Rattle.rules.proofs.Laws.{Testing, testing-start, testing-more, testing-end}
 use borrow.Author.Needs.{needs}
 use Rattle.rules.proofs.ids_below.Statement.{statement}
 use Rattle.rules.proofs.ids_below.Tie as tie
 
 abbrev Inv-loop : tie.InvT-loop
-Inv-loop numbers next ok₀ i₀ ok i = (i ≤ slotCount) × (ok ≡ every i (λ j. getD numbers j 0 <? next))
+Inv-loop numbers next ok₀ i₀ ok i = Testing slotCount (λ j. getD numbers j 0 <? next) i ok
 
 abbrev μ-loop : tie.MeasureT-loop
 μ-loop numbers next ok₀ i₀ ok i = slotCount - i
 
 loop-holds : tie.Need-loop-holds Inv-loop μ-loop
-loop-holds c = (search needs, every-none _)
+loop-holds c = testing-start slotCount _
 
 mul-below : tie.Need-mul-below Inv-loop μ-loop
 mul-below c = search needs
@@ -38,11 +37,13 @@ loop-less : tie.Need-loop-less Inv-loop μ-loop
 loop-less c = search needs
 
 loop-again : tie.Need-loop-again Inv-loop μ-loop
-loop-again c = (search needs, every-more _ _ _ _ _ (c .before .before .before .before .loop .inv .1) (c .before .below .ensures) (c .both .ensures))
+loop-again c =
+    let a = c .before .before .before .before .loop in
+    testing-more slotCount _ (a .i) (a .ok) (a .inv) (c .before .below .result) (c .both .result) (omega arith) (c .before .below .ensures) (c .both .ensures)
 
 returns : tie.Need-returns Inv-loop μ-loop
 unfolding idsBelow
-returns c = let e : c .before .loop .i ≡ slotCount = omega arith in rw e at (c .before .loop .inv .1)
+returns c = let a = c .before .loop in testing-end slotCount _ (a .i) (a .ok) (a .inv) (omega arith)
 
 pub ids-below-spec : {M : Type 1} → statement M
 ids-below-spec =

@@ -1,24 +1,20 @@
-use mathlib.Core.Path.{_≡_, refl}
-use mathlib.Core.Bool.{true}
-use Prim.Native.Nat.{_≤_, _-_, _%_}
+use mathlib.Core.Path.{refl}
+use Prim.Native.Nat.{_-_}
 use native.Mathlib.Omega.{arith}
-use lib.ListN.{length, getD, length-set}
-use denote.Ref.{now}
 use Rattle.definition.specs.Pool.{slotCount}
-use Rattle.rules.specs.Tests.{every, idsDistinct, newId}
-use Rattle.rules.proofs.Laws.{every-none, every-grow, every-fails, Marked, no-clash, clash, marked-more}
+use Rattle.rules.proofs.Laws.{Marking, marking-start, marking-clash, marking-more, marking-end}
 use borrow.Author.Needs.{needs}
 use Rattle.rules.proofs.ids_distinct.Statement.{statement}
 use Rattle.rules.proofs.ids_distinct.Tie as tie
 
 abbrev Inv-loop : tie.InvT-loop
-Inv-loop numbers marks₀ i₀ marks i = (i ≤ slotCount) × (length marks ≡ 256) × (true ≡ every i (newId numbers)) × Marked numbers i marks
+Inv-loop numbers marks₀ i₀ marks i = Marking numbers i marks
 
 abbrev μ-loop : tie.MeasureT-loop
 μ-loop numbers marks₀ i₀ marks i = slotCount - i
 
 loop-holds : tie.Need-loop-holds Inv-loop μ-loop
-loop-holds c = (search needs, refl, every-none _, λ j h. absurd (omega arith))
+loop-holds c = marking-start (c .args .numbers .now) _ refl
 
 mul-x : tie.Need-mul-x Inv-loop μ-loop
 mul-x c = search needs
@@ -36,11 +32,11 @@ clashes-requires : tie.Need-clashes-requires Inv-loop μ-loop
 clashes-requires c κs = search needs
 
 returns : tie.Need-returns Inv-loop μ-loop
-unfolding idsDistinct
 returns c =
-    let a = c .before .before .before .before .before .args .numbers .now in
-    let i = c .before .before .before .before .loop .i in
-    every-fails slotCount i _ (search needs) (clash i (getD (c .before .before .before .before .loop .marks) (getD a i 0 % 256) 0) a (c .before .clashes .result) (c .before .clashes .ensures) (c .if1 .taken))
+    let v = c .before .before .before .before .loop in
+    let k = c .before .clashes in
+    marking-clash (c .before .before .before .before .before .args .numbers .now) (v .i) (v .marks) (v .inv) (omega arith)
+    (k .result) (k .ensures) (c .if1 .taken)
 
 array-write-marks : tie.Need-array-write-marks Inv-loop μ-loop
 array-write-marks c = search needs
@@ -53,15 +49,15 @@ loop-less c = search needs
 
 loop-again : tie.Need-loop-again Inv-loop μ-loop
 loop-again c =
-    let a = c .before .before .before .before .before .args .numbers .now in
-    let i = c .before .before .before .before .loop .i in
-    let v = c .before .before .before .before .loop .inv in
-    let n = no-clash i _ a (c .before .before .before .before .loop .marks) _ (v .3) refl (c .before .clashes .ensures) (c .if1 .left) in
-    (search needs, rw length-set (v .1), every-grow i (newId a) (v .2) n, marked-more i a (c .before .before .before .before .loop .marks) (v .1) (search needs) (v .3))
+    let v = c .before .before .before .before .loop in
+    let k = c .before .clashes in
+    marking-more (c .before .before .before .before .before .args .numbers .now) (v .i) (v .marks) (v .inv) (omega arith)
+    (k .result) (k .ensures) (search needs) (c .if1 .left)
 
 returns-2 : tie.Need-returns-2 Inv-loop μ-loop
-unfolding idsDistinct
-returns-2 c = let e : c .before .loop .i ≡ slotCount = omega arith in rw e at (c .before .loop .inv .2)
+returns-2 c =
+    let v = c .before .loop in
+    marking-end (c .before .before .args .numbers .now) (v .i) (v .marks) (v .inv) (omega arith)
 
 pub ids-distinct-spec : {M : Type 1} → statement M
 ids-distinct-spec =

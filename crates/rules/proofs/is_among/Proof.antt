@@ -1,21 +1,18 @@
-use mathlib.Core.Path.{_≡_, sym}
-use mathlib.Core.Bool.{false}
-use Prim.Native.Nat.{_≤_, _-_}
+use Prim.Native.Nat.{_-_}
 use native.Mathlib.Omega.{arith}
-use Rattle.rules.specs.Tests.{among}
-use Rattle.rules.proofs.Laws.{among-none, among-here, among-more}
+use Rattle.rules.proofs.Laws.{Missing, missing-start, missing-more, missing-end, among-here}
 use borrow.Author.Needs.{needs}
 use Rattle.rules.proofs.is_among.Statement.{statement}
 use Rattle.rules.proofs.is_among.Tie as tie
 
 abbrev Inv-loop : tie.InvT-loop
-Inv-loop numbers n x i₀ i = (i ≤ n) × (among x i numbers ≡ false)
+Inv-loop numbers n x i₀ i = Missing x n numbers i
 
 abbrev μ-loop : tie.MeasureT-loop
 μ-loop numbers n x i₀ i = n - i
 
 loop-holds : tie.Need-loop-holds Inv-loop μ-loop
-loop-holds c = (search needs, among-none _ _)
+loop-holds c = let a = c .args in missing-start (a .x) (a .n) (a .numbers .now)
 
 mul-if1 : tie.Need-mul-if1 Inv-loop μ-loop
 mul-if1 c = search needs
@@ -33,10 +30,16 @@ loop-less : tie.Need-loop-less Inv-loop μ-loop
 loop-less c = search needs
 
 loop-again : tie.Need-loop-again Inv-loop μ-loop
-loop-again c = (search needs, among-more _ _ _ (c .before .before .before .loop .inv .1) (c .if1 .left))
+loop-again c =
+    let v = c .before .before .before .loop in
+    let a = c .before .before .before .before .args in
+    missing-more (a .x) (a .n) (a .numbers .now) (v .i) (v .inv) (omega arith) (c .if1 .left)
 
 returns-2 : tie.Need-returns-2 Inv-loop μ-loop
-returns-2 c = let e : c .before .loop .i ≡ c .before .before .args .n = omega arith in sym (rw e at (c .before .loop .inv .1))
+returns-2 c =
+    let v = c .before .loop in
+    let a = c .before .before .args in
+    missing-end (a .x) (a .n) (a .numbers .now) (v .i) (v .inv) (omega arith)
 
 pub is-among-spec : {M : Type 1} → statement M
 is-among-spec =

@@ -1,9 +1,7 @@
-use mathlib.Core.Path.{refl}
 use native.Mathlib.Omega.{arith}
 use denote.Ref.{now}
-use Rattle.rules.specs.Tests.{keepsRules}
 use Rattle.rules.specs.Exact.{exactly}
-use Rattle.rules.proofs.Laws.{and-is}
+use Rattle.rules.proofs.Laws.{all-tested}
 use borrow.Author.Needs.{needs}
 use Rattle.rules.proofs.keeps_rules.Statement.{statement}
 use Rattle.rules.proofs.keeps_rules.Tie as tie
@@ -62,17 +60,31 @@ both-requires-8 c κs = search needs
 both-requires-9 : tie.Need-both-requires-9
 both-requires-9 c κs = search needs
 
+-- the places before one: where the last `both` of the first half was, and where the slots were tested
+abbrev first-half : tie.After-both9 → tie.After-both4
+first-half c = c .before .before .before .before .before
+
+abbrev fitted : tie.After-both4 → tie.After-slots-fit
+fitted c = c .before .before .before .before .before .before .before .before
+
 returns : tie.Need-returns
-unfolding keepsRules
 returns c =
-    let a = c .before .before .before .before .before .before .before .before .before .before .before .before .before .before .before .before .before .before .before .args in
-    exactly (a .head) (now (a .numbers)) (now (a .times)) (now (a .states)) (now (a .waiters)) (c .both9 .result) (c .before .before .before .before .before .before .before .before .before .before .before .before .before .before .before .before .before .before .before .pre) (omega (arith, c .before .before .before .before .before .before .before .before .before .before .before .before .before .before .before .before .before .before .before .good))
-    (and-is (c .both9 .ensures)
-    (and-is (c .before .before .before .before .before .both4 .ensures) (and-is (c .before .before .before .before .before .before .before .before .before .before .before .before .before .before .before .before .both .ensures) (c .before .before .before .before .before .before .before .before .before .before .before .before .before .before .before .before .before .in-range .ensures) refl)
-    (and-is (c .before .before .before .before .before .before .both3 .ensures) (c .before .before .before .before .before .before .before .before .before .before .before .before .before .before .before .ids-below .ensures) (and-is (c .before .before .before .before .before .before .before .both2 .ensures) (c .before .before .before .before .before .before .before .before .before .before .before .before .before .before .ids-distinct .ensures) (c .before .before .before .before .before .before .before .before .before .before .before .before .before .slots-fit .ensures))))
-    (and-is (c .before .both8 .ensures)
-    (and-is (c .before .before .before .both6 .ensures) (c .before .before .before .before .before .before .before .before .before .before .before .before .counts-right .ensures) (and-is (c .before .before .before .before .both5 .ensures) (c .before .before .before .before .before .before .before .before .before .before .before .order-right .ensures) (c .before .before .before .before .before .before .before .before .before .before .order-blank-from .ensures)))
-    (and-is (c .before .before .both7 .ensures) (c .before .before .before .before .before .before .before .before .before .queue-rises .ensures) (c .before .before .before .before .before .before .before .before .queue-blank-from .ensures))))
+    let h = first-half c in
+    let q = h .before .before .before in
+    let o = q .before .before in
+    let f = fitted h in
+    let b = f .before .before .before in
+    let s = b .before .before .before in
+    let a = s .args in
+    exactly (a .head) (now (a .numbers)) (now (a .times)) (now (a .states)) (now (a .waiters)) (c .both9 .result) (s .pre) (omega (arith, s .good))
+    (all-tested (a .head) (now (a .numbers)) (now (a .times)) (now (a .states)) (now (a .waiters))
+    (b .before .in-range .ensures) (b .both .ensures)
+    (f .before .before .ids-below .ensures) (f .before .ids-distinct .ensures) (f .slots-fit .ensures)
+    (o .before .before .counts-right .ensures) (o .before .order-right .ensures) (o .order-blank-from .ensures)
+    (q .before .queue-rises .ensures) (q .queue-blank-from .ensures)
+    (h .before .before .both2 .ensures) (h .before .both3 .ensures) (h .both4 .ensures)
+    (c .before .before .before .before .both5 .ensures) (c .before .before .before .both6 .ensures) (c .before .before .both7 .ensures)
+    (c .before .both8 .ensures) (c .both9 .ensures))
 
 pub keeps-rules-spec : {M : Type 1} → statement M
 keeps-rules-spec =

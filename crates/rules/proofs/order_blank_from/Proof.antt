@@ -1,31 +1,26 @@
-use mathlib.Core.Path.{_≡_, sym, _∙_}
+use mathlib.Core.Path.{sym, _∙_}
 use mathlib.Core.Logic.{⊎-elim}
-use Prim.Native.Nat.{_+_, _≤_, _-_}
+use Prim.Native.Nat.{_-_}
 use native.Mathlib.Omega.{arith}
-use lib.ListN.{getD, drop}
 use Rattle.slots.specs.Columns.{column-at}
 use Rattle.slots.specs.View.{orderIn}
 use Rattle.definition.specs.Pool.{slotCount}
-use Rattle.rules.specs.Tests.{every, blankPast, blankFrom}
-use Rattle.rules.proofs.Laws.{blank-before, blank-lost, blank-kept}
+use Rattle.rules.proofs.Laws.{Blanking, blank-past, blanking-start, blanking-lost, blanking-kept, blanking-end}
 use borrow.Author.Needs.{needs}
 use Rattle.rules.proofs.order_blank_from.Statement.{statement}
 use Rattle.rules.proofs.order_blank_from.Tie as tie
-use Rattle.rules.proofs.order_blank_from.Reads as reads
-use Rattle.rules.proofs.order_blank_from.Lts as lts
 
 abbrev Inv-loop : tie.InvT-loop
-Inv-loop states n ok₀ i₀ ok i = (n ≤ i) × (i ≤ slotCount) × (ok ≡ every i (λ j. blankPast n j (getD (orderIn states) j 0)))
+Inv-loop states n ok₀ i₀ ok i = Blanking slotCount n (orderIn states) i ok
 
 abbrev μ-loop : tie.MeasureT-loop
 μ-loop states n ok₀ i₀ ok i = slotCount - i
 
 returns : tie.Need-returns Inv-loop μ-loop
-unfolding blankFrom
-returns c = let a = c .before .args in blank-before (a .n) (orderIn (a .states .now)) slotCount (omega (arith, c .if1 .taken))
+returns c = let a = c .before .args in blank-past slotCount (a .n) (orderIn (a .states .now)) (c .if1 .taken)
 
 loop-holds : tie.Need-loop-holds Inv-loop μ-loop
-loop-holds c = let a = c .before .args in (omega arith, omega arith, blank-before (a .n) (orderIn (a .states .now)) (a .n) (omega arith))
+loop-holds c = let a = c .before .args in blanking-start slotCount (a .n) (orderIn (a .states .now)) (c .if1 .left)
 
 add-if2 : tie.Need-add-if2 Inv-loop μ-loop
 add-if2 c = search needs
@@ -43,16 +38,18 @@ loop-again : tie.Need-loop-again Inv-loop μ-loop
 loop-again c =
     let v = c .before .before .before .loop in
     let a = c .before .before .before .before .before .args in
-    let l = orderIn (a .states .now) in
-    let e : getD l (v .i) 0 ≡ getD (a .states .now) (slotCount + v .i) 0 = column-at 1 (a .states .now) (v .i) (omega arith) in
-    (omega arith, omega arith, ⊎-elim
-    (λ w. w .1 ∙ blank-lost (a .n) l (v .i) (v .inv .0) (λ z. w .0 .taken (sym e ∙ z)))
-    (λ w. w .1 ∙ blank-kept (a .n) l (v .i) (v .inv .0) (v .ok) (v .inv .2) (e ∙ w .0 .left))
-    (c .if2 .came))
+    let s = a .states .now in
+    let e = column-at 1 s (v .i) (omega arith) in
+    ⊎-elim
+    (λ w. rw (w .1) (blanking-lost slotCount (a .n) (orderIn s) (v .i) (v .ok) (v .inv) (omega arith) (λ z. w .0 .taken (sym e ∙ z))))
+    (λ w. rw (w .1) (blanking-kept slotCount (a .n) (orderIn s) (v .i) (v .ok) (v .inv) (omega arith) (e ∙ w .0 .left)))
+    (c .if2 .came)
 
 returns-2 : tie.Need-returns-2 Inv-loop μ-loop
-unfolding blankFrom
-returns-2 c = let e : c .before .loop .i ≡ slotCount = omega arith in rw e at (c .before .loop .inv .2)
+returns-2 c =
+    let v = c .before .loop in
+    let a = c .before .before .before .args in
+    blanking-end slotCount (a .n) (orderIn (a .states .now)) (v .i) (v .ok) (v .inv) (omega arith)
 
 pub order-blank-from-spec : {M : Type 1} → statement M
 order-blank-from-spec =

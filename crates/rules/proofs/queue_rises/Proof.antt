@@ -1,27 +1,21 @@
-use mathlib.Core.Path.{_≡_, refl}
-use Prim.Native.Nat.{_≤_, _-_, _/_}
+use Prim.Native.Nat.{_-_}
 use native.Mathlib.Omega.{arith}
-use native.Mathlib.Numerals.{add-one}
-use lib.ListN.{getD}
-use borrow.Author.Tests.{le-leb, lt-leb}
-use Rattle.rules.specs.Tests.{every, waiterFits, queueRises, before as beforeAt}
-use Rattle.rules.proofs.Laws.{every-more, every-none}
+use Rattle.rules.proofs.Laws.{Rising, rising-start, queue-long, rising-more, rising-end}
 use borrow.Author.Needs.{needs}
 use Rattle.rules.proofs.queue_rises.Statement.{statement}
 use Rattle.rules.proofs.queue_rises.Tie as tie
 
 abbrev Inv-loop : tie.InvT-loop
-Inv-loop waiters n last top ok₀ before₀ i₀ ok before i = (i ≤ n) × (before ≡ beforeAt 0 waiters i) × (ok ≡ every i (λ j. waiterFits (beforeAt 0 waiters j) (getD waiters j 0 / 4) last))
+Inv-loop waiters n last top ok₀ before₀ i₀ ok before i = Rising waiters n last i before ok
 
 abbrev μ-loop : tie.MeasureT-loop
 μ-loop waiters n last top ok₀ before₀ i₀ ok before i = n - i
 
 returns : tie.Need-returns Inv-loop μ-loop
-unfolding queueRises
-returns c = rw (lt-leb _ _ (c .if1 .taken))
+returns c = let a = c .before .args in queue-long (a .waiters .now) (a .n) (a .last) (c .if1 .taken)
 
 loop-holds : tie.Need-loop-holds Inv-loop μ-loop
-loop-holds c = (search needs, refl, every-none _)
+loop-holds c = let a = c .before .args in rising-start (a .waiters .now) (a .n) (a .last)
 
 mul-id : tie.Need-mul-id Inv-loop μ-loop
 mul-id c = search needs
@@ -42,11 +36,20 @@ loop-less : tie.Need-loop-less Inv-loop μ-loop
 loop-less c = search needs
 
 loop-again : tie.Need-loop-again Inv-loop μ-loop
-loop-again c = (search needs, rw (add-one (c .before .before .before .before .loop .i)), every-more _ _ _ _ _ (c .before .before .before .before .loop .inv .2) (rw (← c .before .before .before .before .loop .inv .1) (c .before .waiter-fits .ensures)) (c .both .ensures))
+loop-again c =
+    let t = c .before .before .before .before in
+    let v = t .loop in
+    let a = t .before .before .args in
+    let f = c .before .waiter-fits in
+    rising-more (a .waiters .now) (a .n) (a .last) (v .i) (v .before) (v .ok) (v .inv) (f .result) (c .both .result)
+    (omega arith) (f .ensures) (c .both .ensures)
 
 returns-2 : tie.Need-returns-2 Inv-loop μ-loop
-unfolding queueRises
-returns-2 c = let e : c .before .loop .i ≡ c .before .before .before .args .n = omega arith in rw (le-leb _ _ (c .before .before .if1 .left)) (rw e at (c .before .loop .inv .2))
+returns-2 c =
+    let v = c .before .loop in
+    let r = c .before .before in
+    let a = r .before .args in
+    rising-end (a .waiters .now) (a .n) (a .last) (v .i) (v .before) (v .ok) (v .inv) (r .if1 .left) (omega arith)
 
 pub queue-rises-spec : {M : Type 1} → statement M
 queue-rises-spec =

@@ -1,22 +1,22 @@
-use mathlib.Core.Path.{_≡_}
-use Prim.Native.Nat.{_≤_, _-_, _+_}
+use Prim.Native.Nat.{_-_, _+_}
 use native.Mathlib.Omega.{arith}
 use lib.ListN.{getD}
 use Rattle.definition.specs.Pool.{slotCount}
-use Rattle.rules.specs.Tests.{every, slotFits, slotsFit}
-use Rattle.rules.proofs.Laws.{every-more, every-none}
+use Rattle.rules.specs.Tests.{slotFits, slotsFit}
+use Rattle.rules.proofs.Laws.{Testing, testing-start, testing-more, testing-end}
 use borrow.Author.Needs.{needs}
 use Rattle.rules.proofs.slots_fit.Statement.{statement}
 use Rattle.rules.proofs.slots_fit.Tie as tie
 
 abbrev Inv-loop : tie.InvT-loop
-Inv-loop numbers times states ok₀ i₀ ok i = (i ≤ slotCount) × (ok ≡ every i (λ j. slotFits (getD numbers j 0) (getD numbers (slotCount + j) 0) (getD times j 0) (getD states j 0)))
+Inv-loop numbers times states ok₀ i₀ ok i =
+    Testing slotCount (λ j. slotFits (getD numbers j 0) (getD numbers (slotCount + j) 0) (getD times j 0) (getD states j 0)) i ok
 
 abbrev μ-loop : tie.MeasureT-loop
 μ-loop numbers times states ok₀ i₀ ok i = slotCount - i
 
 loop-holds : tie.Need-loop-holds Inv-loop μ-loop
-loop-holds c = (search needs, every-none _)
+loop-holds c = testing-start slotCount _
 
 mul-slot-fits : tie.Need-mul-slot-fits Inv-loop μ-loop
 mul-slot-fits c = search needs
@@ -55,11 +55,14 @@ loop-less : tie.Need-loop-less Inv-loop μ-loop
 loop-less c = search needs
 
 loop-again : tie.Need-loop-again Inv-loop μ-loop
-loop-again c = (search needs, every-more _ _ _ _ _ (c .before .before .before .before .before .before .before .loop .inv .1) (c .before .slot-fits .ensures) (c .both .ensures))
+loop-again c =
+    let f = c .before in
+    let a = f .before .before .before .before .before .before .loop in
+    testing-more slotCount _ (a .i) (a .ok) (a .inv) (f .slot-fits .result) (c .both .result) (omega arith) (f .slot-fits .ensures) (c .both .ensures)
 
 returns : tie.Need-returns Inv-loop μ-loop
 unfolding slotsFit
-returns c = let e : c .before .loop .i ≡ slotCount = omega arith in rw e at (c .before .loop .inv .1)
+returns c = let a = c .before .loop in testing-end slotCount _ (a .i) (a .ok) (a .inv) (omega arith)
 
 pub slots-fit-spec : {M : Type 1} → statement M
 slots-fit-spec =

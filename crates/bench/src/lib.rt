@@ -12,13 +12,13 @@ use definition::SLOTS;
 use libc::STDIN_FILENO;
 use libc::STDOUT_FILENO;
 use pool::Pool;
+use reading::Given;
 use slots::Head;
 use slots::Numbers;
 use slots::States;
 use slots::Times;
 use slots::Waiters;
 use tally::Tally;
-use reading::Given;
 
 const FRAME: usize = 24;
 

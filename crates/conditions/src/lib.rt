@@ -68,19 +68,19 @@ pub struct Examined {
 }
 
 // The one at place k of the available list.
-pub fn examine(
-    head: Head,
-    numbers: &Numbers,
-    times: &Times,
-    states: &States,
-    k: usize,
-) -> Examined
+pub fn examine(head: Head, numbers: &Numbers, times: &Times, states: &States, k: usize) -> Examined
     requires { ⌜ (length (slotsOf (now numbers) (now times) (now states)) ≡ slotCount) × (k < slotCount) × (getD (orderIn (now states)) k 0 < slotCount) ⌝ }
     ensures { λ r. ⌜ Examines head (slotsOf (now (numbers .entry)) (now (times .entry)) (now (states .entry))) (orderIn (now (states .entry))) k (r .slot) (r .reason) ⌝ }
 {
     let i = words::as_index(states[ORDER + k]);
     let m = head.status;
     let o = head.options;
-    let r = perished(m.generation, o.idle, head.clock, numbers[GENERATIONS + i], times[i]);
+    let r = perished(
+        m.generation,
+        o.idle,
+        head.clock,
+        numbers[GENERATIONS + i],
+        times[i],
+    );
     Examined { slot: i, reason: r }
 }

@@ -41,7 +41,17 @@ pub fn handle(
             id,
             false,
         ),
-        Event::WarmPool(id) => steps::request(head, numbers, times, states, waiters, out, 0, id, true),
+        Event::WarmPool(id) => steps::request(
+            head,
+            numbers,
+            times,
+            states,
+            waiters,
+            out,
+            0,
+            id,
+            true,
+        ),
         Event::Abandon(_) => {
             steps::abandon(head, numbers, times, states, waiters, i);
             Progress {
@@ -104,7 +114,14 @@ pub fn handle(
             0,
             i,
         ),
-        Event::Maintenance => upkeep::perform_maintenance(head, numbers, times, states, waiters, out),
+        Event::Maintenance => upkeep::perform_maintenance(
+            head,
+            numbers,
+            times,
+            states,
+            waiters,
+            out,
+        ),
         Event::FillPool => Progress {
             head: head,
             count: 0,

@@ -17,13 +17,13 @@ use definition::LINE;
 use definition::QUEUE;
 use definition::Refusal;
 use definition::SLOTS;
+use reading::Given;
 use slots::Head;
 use slots::Numbers;
 use slots::Outcome;
 use slots::States;
 use slots::Times;
 use slots::Waiters;
-use reading::Given;
 
 pub enum Phase {
     First,

@@ -91,7 +91,7 @@ module _ (h : Head) (ns ts ss ws : List ℕ) where
       ≡ withAvailable (withTable pool (pool .ids) (set (pool .slots) i (withState 1 t (slotAt pool i)))) (set (pool .available) k i) (h .«available_count»)
   shelved-pool w k i t spot low =
       let states : statesIn (set (set ss (slotCount + k) i) i 1) ≡ set (statesIn ss) i 1 =
-          column-set 0 (set ss (slotCount + k) i) i i 1 (omega arith) low ∙ ap (λ (l : List ℕ). set l i 1) (column-behind 0 ss (slotCount + k) i (omega arith)) in
+      column-set 0 (set ss (slotCount + k) i) i i 1 (omega arith) low ∙ ap (λ (l : List ℕ). set l i 1) (column-behind 0 ss (slotCount + k) i (omega arith)) in
       let order : orderIn (set (set ss (slotCount + k) i) i 1) ≡ set (orderIn ss) k i = column-before 1 (set ss (slotCount + k) i) i 1 (omega arith) ∙ column-set 1 ss k (slotCount + k) i (omega arith) spot in
       rw (slots-set-state ns ts ss w (set (set ss (slotCount + k) i) i 1) i t 1 low states, order)
 

@@ -9,9 +9,9 @@ ghost use Rattle.definition.specs.Bytes.{serialOf, recordBytes};
 ghost use Rattle.slots.specs.Order.{placeOf, slotHolding, vacantSlot, shifted};
 ghost use Rattle.slots.specs.View.{idsIn, statesIn, orderIn};
 ghost use Rattle.slots.specs.Laid.{laid};
-use slots::ORDER;
 use definition::SLOTS;
 use slots::Numbers;
+use slots::ORDER;
 use slots::States;
 use slots::Waiters;
 

@@ -17,6 +17,10 @@ use Rattle.table.proofs.find_vacant.Reads as find-vacant-reads
 low : (d : tie.After-find-vacant) → d .find-vacant .result < slotCount
 low d = omega (arith, d .find-vacant .ensures, d .before .before .before .pre .1 .spot)
 
+-- found before the record was written
+abbrev found : tie.After-m → tie.After-find-vacant
+found d = d .before .before .before .before .before .before
+
 find-vacant-requires : tie.Need-find-vacant-requires
 find-vacant-requires c κs = search needs
 
@@ -27,28 +31,28 @@ emit-requires : tie.Need-emit-requires
 emit-requires c κs = search needs
 
 mul-numbers : tie.Need-mul-numbers
-mul-numbers c = omega (arith, low (c .before .before .before .before .before .before))
+mul-numbers c = omega (arith, low (found c))
 
 element-write-numbers : tie.Need-element-write-numbers
-element-write-numbers c = omega (arith, low (c .before .before .before .before .before .before))
+element-write-numbers c = omega (arith, low (found c))
 
 add-numbers : tie.Need-add-numbers
-add-numbers c = omega (arith, low (c .before .before .before .before .before .before))
+add-numbers c = omega (arith, low (found c))
 
 mul-numbers-2 : tie.Need-mul-numbers-2
-mul-numbers-2 c = omega (arith, low (c .before .before .before .before .before .before))
+mul-numbers-2 c = omega (arith, low (found c))
 
 element-write-numbers-2 : tie.Need-element-write-numbers-2
-element-write-numbers-2 c = omega (arith, low (c .before .before .before .before .before .before))
+element-write-numbers-2 c = omega (arith, low (found c))
 
 mul-times : tie.Need-mul-times
-mul-times c = omega (arith, low (c .before .before .before .before .before .before))
+mul-times c = omega (arith, low (found c))
 
 element-write-times : tie.Need-element-write-times
-element-write-times c = low (c .before .before .before .before .before .before)
+element-write-times c = low (found c)
 
 element-write-states : tie.Need-element-write-states
-element-write-states c = omega (arith, low (c .before .before .before .before .before .before))
+element-write-states c = omega (arith, low (found c))
 
 add-h : tie.Need-add-h
 add-h c = search needs
@@ -67,10 +71,11 @@ same-length c = search needs
 
 returns : tie.Need-returns
 returns c =
-    let d = c .before .before .before .before .before .before .before .before in
+    let written = c .before .before in
+    let d = found written in
     let a = d .before .before .before .args in
     created-done (a .head) (now (a .numbers)) (now (a .times)) (now (a .states)) (now (a .waiters)) (d .find-vacant .result) (a .state) _ (d .find-vacant .ensures) (low d)
-    (c .before .before .before .before .before .before .as-u64 .ensures) (c .before .before .before .before .before .emit .ensures) _ refl
+    (written .before .before .before .before .as-u64 .ensures) (written .before .before .before .emit .ensures) _ refl
 
 pub create-pending-connection-spec : {M : Type 1} → statement M
 create-pending-connection-spec =

@@ -23,16 +23,18 @@ same-length c = search needs
 
 returns : tie.Need-returns
 returns c =
-    let a = c .before .before .before .before .before .before .args in
-    rw (told-unheard (a .kind) (a .other) (c .before .before .before .before .before .before .pre .1) (waiterOf (a .waiter)) (le-leb _ _ (c .before .before .before .before .if1 .taken))) (c .before .before .emit .ensures)
+    let start = c .before .before .before .before .before .before in
+    let a = start .args in
+    rw (told-unheard (a .kind) (a .other) (start .pre .1) (waiterOf (a .waiter)) (le-leb _ _ (c .before .before .before .before .if1 .taken))) (c .before .before .emit .ensures)
 
 same-length-2 : tie.Need-same-length-2
 same-length-2 c = search needs
 
 returns-2 : tie.Need-returns-2
 returns-2 c =
-    let a = c .before .before .before .before .before .before .args in
-    rw (told-heard (a .kind) (a .other) (c .before .before .before .before .before .before .pre .1) (waiterOf (a .waiter)) (lt-leb _ _ (c .before .before .before .before .if1 .left))) (c .before .before .emit2 .ensures)
+    let start = c .before .before .before .before .before .before in
+    let a = start .args in
+    rw (told-heard (a .kind) (a .other) (start .pre .1) (waiterOf (a .waiter)) (lt-leb _ _ (c .before .before .before .before .if1 .left))) (c .before .before .emit2 .ensures)
 
 pub reply-spec : {M : Type 1} → statement M
 reply-spec =

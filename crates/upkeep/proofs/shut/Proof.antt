@@ -58,7 +58,7 @@ emit-requires c κs =
     omega (arith, few d, start (closing (d .before)) .pre .1)
 
 add-t30 : tie.Need-add-t30
-add-t30 c = omega (arith, few (c .before .before .before .before .before .before .before))
+add-t30 c = let said = c .before .before .before .before .before .before .before in omega (arith, few said)
 
 same-length : tie.Need-same-length
 same-length c = search needs

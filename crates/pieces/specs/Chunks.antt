@@ -119,7 +119,8 @@ module _ {S O : Type 0} (m : Machine S O) where
   in-left room v [] = subst (Left 0) (sym (in-nil m room v)) (omega arith)
   in-left room v (c ∷ t) = let h = one-less room v c t (c =? newline) refl (λ r w. in-left r w t) in omega arith
 
-  in-less : (room : ℕ) (v : View S) (t : List ℕ) → 0 < length t → length (feedIn m room v t .rest) < length t
+  -- some of any text is fed
+  pub in-less : (room : ℕ) (v : View S) (t : List ℕ) → 0 < length t → length (feedIn m room v t .rest) < length t
   in-less room v [] h = absurd (omega arith)
   in-less room v (c ∷ t) h = let g = one-less room v c t (c =? newline) refl (λ r w. in-left r w t) in omega arith
 

@@ -43,7 +43,7 @@ pub record Logged (t : Underway) (before after : List ℕ) (d : Day) : Type 0 wh
 
 -- ── What is said is the definition's log, where it is all ──────────────────────────────────────────────────────────────────
 
-opening-writes : (budget : ℕ) (text : List ℕ) → Writes (ended onSlots (feed onSlots (opening budget) text)) budget text
+pub opening-writes : (budget : ℕ) (text : List ℕ) → Writes (ended onSlots (feed onSlots (opening budget) text)) budget text
 opening-writes budget text = feed-writes budget (freshSlots noOptions) (replicate enoughRoom 0) text (simp length-replicate (omega arith))
 
 all-read : (k : Fed Play ℕ) → k .rest ≡ [] → ended onSlots (andThen onSlots k (k .rest)) ≡ ended onSlots k

@@ -6,3 +6,4 @@ pub mod Meaning
 pub mod Days
 pub mod Once
 pub mod Exits
+pub mod Sessions

@@ -16,6 +16,7 @@ use Rattle.pieces.specs.Feed.{View, Fed, heldMost}
 use Rattle.pieces.specs.Code.{Holds}
 use Rattle.runs.specs.declared.Run.{Run}
 use Rattle.runs.specs.Code.{viewOf, Read}
+use Rattle.session.specs.Code.{Finishes}
 use Rattle.replay.specs.declared.Day.{Day}
 use Rattle.replay.specs.Days.{Underway, Logged}
 
@@ -27,6 +28,12 @@ pub lined-once : (k : Took Play ℕ) (b : List ℕ) {a a' : List ℕ} {s s' : Pl
 lined-once k b f g =
     let e = f .written ∙ sym (g .written) in
     (f .state ∙ sym (g .state), e, same-laid (k .out) b e (f .laid) (g .laid))
+
+-- a session's end
+pub finishes-once : (k : Took Play ℕ) (b : List ℕ) {a a' : List ℕ} {u u' n n' : ℕ} → Finishes k b a u n → Finishes k b a' u' n' → (u ≡ u') × (n ≡ n') × (a ≡ a')
+finishes-once k b f g =
+    let e = f .written ∙ sym (g .written) in
+    (f .used ∙ sym (g .used), e, same-laid (k .out) b e (f .laid) (g .laid))
 
 -- replay_day
 same-day : (d d' : Day) → d .whole ≡ d' .whole → d .used ≡ d' .used → d .written ≡ d' .written → d ≡ d'
@@ -40,7 +47,7 @@ logged-once t b d d' f g =
     let e = f .written ∙ sym (g .written) in
     (same-day d d' (f .whole ∙ sym (g .whole)) (f .used ∙ sym (g .used)) e, same-laid (t .took .out) b e (f .laid) (g .laid))
 
--- replay_some
+-- replay_some, and a session's going on
 same-count : (b b' : List ℕ) (n n' : ℕ) → Holds b n → Holds b' n' → take n b ≡ take n' b' → n ≡ n'
 same-count b b' n n' h h' e =
     let k : length (take n b) ≡ n = length-take-le n b (omega (arith, h .few, h .long)) in

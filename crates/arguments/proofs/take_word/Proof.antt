@@ -60,13 +60,15 @@ returns-4 : tie.Need-returns-4
 returns-4 c =
     let d : tie.After-same2 = c .before .before .before in
     let a = start d .args in
-    asked-file (a .a) (a .i) (now (a .word)) (d .before .before .before .before .before .if1 .left) (no-budget d) (sym (c .before .before .if3 .left) ∙ is-used d) (c .if4 .taken)
+    asked-file (a .a) (a .i) (now (a .word)) (d .before .before .before .before .before .if1 .left) (no-budget d)
+    (sym (c .before .before .if3 .left) ∙ is-used d) (c .if4 .taken)
 
 returns-5 : tie.Need-returns-5
 returns-5 c =
     let d : tie.After-same2 = c .before .before .before in
     let a = start d .args in
-    asked-bad (a .a) (a .i) (now (a .word)) (d .before .before .before .before .before .if1 .left) (no-budget d) (sym (c .before .before .if3 .left) ∙ is-used d) (c .if4 .left)
+    asked-bad (a .a) (a .i) (now (a .word)) (d .before .before .before .before .before .if1 .left) (no-budget d)
+    (sym (c .before .before .if3 .left) ∙ is-used d) (c .if4 .left)
 
 pub take-word-spec : {M : Type 1} → statement M
 take-word-spec =

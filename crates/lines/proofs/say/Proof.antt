@@ -48,8 +48,8 @@ returns c =
     let d : tie.After-line-number = c .before .before .before .before in
     let a = known d .args in
     let k = d .before .before .answer .given in
-    said-refused (a .answer) (now (a .scratch)) (a .used + 2) (now (a .out)) (c .before .before .print-refusal .last .1 .1 .0) (k .0 .0) (d .line-number .result)
-    (k .1) (d .line-number .ensures) (c .before .before .print-refusal .ensures)
+    said-refused (a .answer) (now (a .scratch)) (a .used + 2) (now (a .out)) (c .before .before .print-refusal .last .1 .1 .0) (k .0 .0)
+    (d .line-number .result) (k .1) (d .line-number .ensures) (c .before .before .print-refusal .ensures)
 
 same-length-2 : tie.Need-same-length-2
 same-length-2 c = search needs

@@ -37,7 +37,7 @@ add-bytes : tie.Need-add-bytes Inv-loop μ-loop
 add-bytes c = search needs
 
 array-write-bytes : tie.Need-array-write-bytes Inv-loop μ-loop
-array-write-bytes c = search needs
+array-write-bytes c = omega (arith, ltb-true)
 
 add-i : tie.Need-add-i Inv-loop μ-loop
 add-i c = search needs
@@ -50,7 +50,7 @@ loop-again c =
     let a = c .before .before .before .loop in
     let g = c .before .before .before .before .args in
     let v = a .inv in
-    let h : g .count + a .i < heldMost = ltb-true (g .count + a .i) heldMost (c .before .if1 .taken) in (
+    let h : g .count + a .i < heldMost = omega (arith, ltb-true) in (
       omega arith,
       omega arith,
       simp length-set (v .2),
@@ -69,7 +69,7 @@ returns c =
     let g = c .before .before .args in
     let v = a .inv in
     let e : a .i ≡ more (g .count) (g .piece .now) =
-    ⊎-elim (λ w. omega (arith, ltb-false (g .count + a .i) heldMost (w .1 .left))) (λ w. omega (arith, w .left)) (c .loop-test .came) in
+    ⊎-elim (λ w. omega (arith, ltb-false, w .1 .left)) (λ w. omega (arith, w .left)) (c .loop-test .came) in
     (ap (λ (k : ℕ). g .count + k) e, v .4 ∙ ap (paste (g .held) (g .count) (g .piece .now)) e)
 
 pub hold-spec : {M : Type 1} → statement M

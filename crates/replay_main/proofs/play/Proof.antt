@@ -47,8 +47,8 @@ taken d =
     let h : tie.At-loop2 Inv-loop2 μ-loop2 Inv-loop μ-loop = head d in
     let v = h .loop2 .inv in
     let g = d .go-on in
-    fed (got h .read .last .1 .0) (h .loop2 .at) (h .before .count .result) (g .result .read) (d .before .before .before .before .loop2-test .taken) (v .1) (g .ensures .within)
-    (g .ensures .moves (omega (arith, v .2)))
+    fed (got h .read .last .1 .0) (h .loop2 .at) (h .before .count .result) (g .result .read) (d .before .before .before .before .loop2-test .taken) (v .1)
+    (g .ensures .within) (g .ensures .moves (omega (arith, v .2)))
 
 large-buffer-requires : tie.Need-large-buffer-requires Inv-loop2 μ-loop2 Inv-loop μ-loop
 large-buffer-requires c κs = search needs

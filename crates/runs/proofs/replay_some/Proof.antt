@@ -193,7 +193,8 @@ loop-again c =
     let k = t .take-line in (
       omega (arith, k .kept .1 .1 .1 .1 .1 .1 .1 .0, a .inv .0),
       doing-quick (text h) (now (start h .args .out)) (begun h) (play h) (a .held) (a .count) (a .at) (a .w) (a .out) (a .inv .1)
-          (d .line-end .result) (found d) (k .last .1 .1 .1 .1 .1 .1 .1 .1 .0) (lined t) (k .result .written) (f .before .before .if2 .taken) (f .if3 .taken) (k .ensures),
+          (d .line-end .result) (found d) (k .last .1 .1 .1 .1 .1 .1 .1 .1 .0) (lined t) (k .result .written)
+          (f .before .before .if2 .taken) (f .if3 .taken) (k .ensures),
     )
 
 loop-less-2 : tie.Need-loop-less-2 Inv-loop μ-loop
@@ -210,7 +211,8 @@ loop-again-2 c =
     let k = t .take-piece in (
       omega (arith, k .kept .1 .1 .1 .1 .1 .1 .1 .1 .1 .0, a .inv .0),
       doing-step (text h) (now (start h .args .out)) (begun h) (play h) (a .held) (a .count) (a .at) (a .w) (a .out) (a .inv .1)
-          (d .line-end .result) (found d) (k .last .1 .1 .1 .1 .1 .1 .1 .1 .1 .1 .0) (pieced t) (k .result .written) (k .result .held) (k .result .count) (k .ensures),
+          (d .line-end .result) (found d) (k .last .1 .1 .1 .1 .1 .1 .1 .1 .1 .1 .0) (pieced t) (k .result .written)
+          (k .result .held) (k .result .count) (k .ensures),
     )
 
 same-length : tie.Need-same-length Inv-loop μ-loop

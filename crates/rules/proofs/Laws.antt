@@ -2,7 +2,7 @@
 use mathlib.Core.Path.{_≡_, refl, sym, ap, _∙_}
 use mathlib.Core.Bool.{Bool, true, false, not, _&&_, _||_, false≢true}
 use mathlib.Core.List.{List}
-use Prim.Native.Nat.{ℕ, zero, suc, _+_, _/_, _%_, _≤_, _<_}
+use Prim.Native.Nat.{_*_, ℕ, zero, suc, _+_, _/_, _%_, _≤_, _<_}
 use native.Mathlib.Numerals.{add-one}
 use native.Mathlib.Omega.{arith}
 use lib.ListN.{length, getD, set, replicate, length-set, length-replicate}
@@ -204,15 +204,19 @@ module _ (x n : ℕ) (l : List ℕ) (i : ℕ) (v : Missing x n l i) where
 
 -- ── the marks of the remainders: whoever stands before place i has its mark ──
 
+-- as many marks as the code has
+abbrev pub markCount : ℕ
+markCount = 4 * slotCount
+
 abbrev Marked : List ℕ → ℕ → List ℕ → Type 0
-Marked ids i marks = (j : ℕ) → j < i → 0 < getD marks (getD ids j 0 % 256) 0
+Marked ids i marks = (j : ℕ) → j < i → 0 < getD marks (getD ids j 0 % markCount) 0
 
 -- whoever has no mark is new
-unmarked : (x n : ℕ) (ids marks : List ℕ) → Marked ids n marks → getD marks (x % 256) 0 ≡ 0 → among x n ids ≡ false
+unmarked : (x n : ℕ) (ids marks : List ℕ) → Marked ids n marks → getD marks (x % markCount) 0 ≡ 0 → among x n ids ≡ false
 unfolding among
 unmarked x zero ids marks m z = refl
 unmarked x (suc n) ids marks m z =
-    let d : getD ids n 0 ≡ x → ⊥ = λ e. let k : 0 < getD marks (x % 256) 0 = rw e at (m n (omega arith)) in omega arith in
+    let d : getD ids n 0 ≡ x → ⊥ = λ e. let k : 0 < getD marks (x % markCount) 0 = rw e at (m n (omega arith)) in omega arith in
     rw (unmarked x n ids marks (λ j h. m j (omega arith)) z, ne-eqb (getD ids n 0) x d)
 
 -- what `clashes` says of place i, whose remainder has the mark
@@ -220,11 +224,11 @@ abbrev clashing : ℕ → ℕ → List ℕ → Bool
 clashing i mark ids = not (mark =? 0) && (not (getD ids i 0 =? 0) && among (getD ids i 0) i ids)
 
 -- no clash: new
-no-clash : (i : ℕ) (ids marks : List ℕ) (r : Bool) → Marked ids i marks → r ≡ clashing i (getD marks (getD ids i 0 % 256) 0) ids → r ≡ false
+no-clash : (i : ℕ) (ids marks : List ℕ) (r : Bool) → Marked ids i marks → r ≡ clashing i (getD marks (getD ids i 0 % markCount) 0) ids → r ≡ false
     → newId ids i ≡ true
 no-clash i ids marks r m e f =
     let x : ℕ = getD ids i 0 in
-    let mark : ℕ = getD marks (x % 256) 0 in
+    let mark : ℕ = getD marks (x % markCount) 0 in
     by-eq x 0
     (λ z. rw (eq-eqb x 0 z))
     (λ z. by-eq mark 0
@@ -242,32 +246,32 @@ clash i mark ids r e f = go (mark =? 0) (getD ids i 0 =? 0) (among (getD ids i 0
     go false false true h = refl
     go false false false h = absurd (false≢true h)
 
-marked-more : (i : ℕ) (ids marks : List ℕ) → length marks ≡ 256 → getD ids i 0 % 256 < 256 → Marked ids i marks
-    → Marked ids (i + 1) (set marks (getD ids i 0 % 256) 1)
+marked-more : (i : ℕ) (ids marks : List ℕ) → length marks ≡ markCount → getD ids i 0 % markCount < markCount → Marked ids i marks
+    → Marked ids (i + 1) (set marks (getD ids i 0 % markCount) 1)
 marked-more i ids marks len low m j h =
-    let h0 : ℕ = getD ids i 0 % 256 in
-    by-eq (getD ids j 0 % 256) h0
+    let h0 : ℕ = getD ids i 0 % markCount in
+    by-eq (getD ids j 0 % markCount) h0
     (λ e. rw (e, getD-set-same marks h0 1 0 (omega arith)) (omega arith))
-    (λ e. rw (getD-set-other marks h0 (getD ids j 0 % 256) 1 0 e)
-    (m j (by-eq j i (λ q. absurd (e (ap (λ (x : ℕ). getD ids x 0 % 256) q))) (λ q. omega arith))))
+    (λ e. rw (getD-set-other marks h0 (getD ids j 0 % markCount) 1 0 e)
+    (m j (by-eq j i (λ q. absurd (e (ap (λ (x : ℕ). getD ids x 0 % markCount) q))) (λ q. omega arith))))
 
 -- the first i are distinct and marked
 pub record Marking (ids : List ℕ) (i : ℕ) (marks : List ℕ) : Type 0 where
   pub low : i ≤ slotCount
-  pub long : length marks ≡ 256
+  pub long : length marks ≡ markCount
   pub so-far : true ≡ every i (newId ids)
   pub marked : Marked ids i marks
 
-pub marking-start : (ids marks : List ℕ) → length marks ≡ 256 → Marking ids 0 marks
+pub marking-start : (ids marks : List ℕ) → length marks ≡ markCount → Marking ids 0 marks
 marking-start ids marks l = record { low = omega arith; long = l; so-far = every-none (newId ids); marked = λ j h. absurd (omega arith) }
 
 module _ (ids : List ℕ) (i : ℕ) (marks : List ℕ) (v : Marking ids i marks) where
-  module _ (h : i < slotCount) (r : Bool) (e : r ≡ clashing i (getD marks (getD ids i 0 % 256) 0) ids) where
+  module _ (h : i < slotCount) (r : Bool) (e : r ≡ clashing i (getD marks (getD ids i 0 % markCount) 0) ids) where
     pub marking-clash : r ≡ true → false ≡ idsDistinct ids
     unfolding idsDistinct
-    marking-clash f = every-fails slotCount i (newId ids) h (clash i (getD marks (getD ids i 0 % 256) 0) ids r e f)
+    marking-clash f = every-fails slotCount i (newId ids) h (clash i (getD marks (getD ids i 0 % markCount) 0) ids r e f)
 
-    pub marking-more : getD ids i 0 % 256 < 256 → r ≡ false → Marking ids (i + 1) (set marks (getD ids i 0 % 256) 1)
+    pub marking-more : getD ids i 0 % markCount < markCount → r ≡ false → Marking ids (i + 1) (set marks (getD ids i 0 % markCount) 1)
     marking-more low f = record {
       low = omega arith;
       long = simp length-set (v .long);

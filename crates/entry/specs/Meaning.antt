@@ -14,7 +14,7 @@ use Rattle.definition.specs.Pool as D
 use Rattle.definition.specs.Pool.{fresh, withDefaults, inRange}
 use Rattle.definition.specs.Steps.{Out}
 use Rattle.definition.specs.Refusals as R
-use Rattle.definition.specs.Refusals.{enoughRoom, lastNextId, after, run, make}
+use Rattle.definition.specs.Refusals.{enoughRoom, mostNextId, after, run, make}
 use Rattle.definition.specs.Bytes.{frameOf}
 use Rattle.definition.specs.declared.Options.{Options}
 use Rattle.definition.specs.declared.Refusal.{Refusal}
@@ -100,7 +100,7 @@ pub record Meant (p : Pool) (l : List ℕ) (w : Entered) (r : R.Result) : Type 0
   pub refuses : (x : Refusal) → r ≡ R.Refused x → w ≡ entered p l (Refused x)
   pub accepts : (o : Out D.Pool) → r ≡ R.Accepted o → Done p l w o
 
-pub entry-meant : (p : Pool) (m : D.Pool) → Stands (viewOf p) m → viewOf p .nextId ≤ lastNextId + 65 → (b l : List ℕ)
+pub entry-meant : (p : Pool) (m : D.Pool) → Stands (viewOf p) m → viewOf p .nextId ≤ mostNextId → (b l : List ℕ)
     → Meant p l (entry p b l) (R.step m (frameOf b) (length l))
 entry-meant p m st n b l =
     let f : Formed (viewOf p) = record { lists = m; stands = st; numbers = n } in
@@ -162,7 +162,7 @@ pub record Ran (cs : List Lend) (p : Pool) (m : D.Pool) : Type 0 where
   pub records : told cs p ≡ length (run (calls cs) m .records)
   pub formed : Formed (viewOf (left cs p))
 
-answered : (cs : List Lend) (p : Pool) (m : D.Pool) → Stands (viewOf p) m → viewOf p .nextId ≤ lastNextId + 65 → Answered cs p m
+answered : (cs : List Lend) (p : Pool) (m : D.Pool) → Stands (viewOf p) m → viewOf p .nextId ≤ mostNextId → Answered cs p m
 unfolding Answered
 answered [] p m st n = tt
 answered (c ∷ cs) p m st n =
@@ -202,7 +202,7 @@ told-writes (c ∷ cs) p f =
     told-writes cs q (entry-formed p f (c .bytes) (c .out)) ∙ ap (writes (map read cs)) (entry-view p f (c .bytes) (c .out)) in
     omega (arith, a, b)
 
-pub entries-run : (cs : List Lend) (p : Pool) (m : D.Pool) → Stands (viewOf p) m → viewOf p .nextId ≤ lastNextId + 65 → Ran cs p m
+pub entries-run : (cs : List Lend) (p : Pool) (m : D.Pool) → Stands (viewOf p) m → viewOf p .nextId ≤ mostNextId → Ran cs p m
 entries-run cs p m st n =
     let f : Formed (viewOf p) = record { lists = m; stands = st; numbers = n } in
     let r = run-refines (map read cs) (viewOf p) m st in

@@ -11,7 +11,7 @@ use Rattle.definition.specs.Pool.{fresh, inRange}
 use Rattle.definition.specs.Records.{Record, PoolReady, told}
 use Rattle.definition.specs.Steps.{Out, _>>_, leaveLent, leavePending, shelve, lendOut, createPendingConnection, createMany, closePerished, tellAll, enter, queue, request, markAsReady, handle, canService, establish, lend, takeAvailable, checkOut, serveFront, service, event}
 use Rattle.definition.specs.Refusals as R
-use Rattle.definition.specs.Refusals.{first, tests, outcome, lastNextId}
+use Rattle.definition.specs.Refusals.{first, tests, outcome, enoughRoom}
 use Rattle.definition.specs.Bytes.{serialOf, at4, at8, frameOfFields, frameOf, recordBytes}
 use Rattle.definition.specs.declared.Options.{Options}
 use Rattle.definition.specs.declared.Event.the-variants.{CheckOut, MarkAsReady}
@@ -55,11 +55,11 @@ unfolding asked frameOf frameOfFields at4 at8 if_then_else_
 asked-frame = refl
 
 unfoldable room : List ℕ
-room = replicate 8192 0
+room = replicate enoughRoom 0
 
-room-long : length room ≡ 8192
+room-long : length room ≡ enoughRoom
 unfolding room
-room-long = length-replicate {A = ℕ} 8192 0
+room-long = length-replicate {A = ℕ} enoughRoom 0
 
 abbrev o1 : Out D.Pool
 o1 = outcome (Good MarkAsReady 1) (fresh options)
@@ -67,13 +67,13 @@ o1 = outcome (Good MarkAsReady 1) (fresh options)
 abbrev o2 : Out D.Pool
 o2 = outcome (Good (CheckOut 1) 1) (o1 .pool)
 
-step1 : R.step (fresh options) (Good MarkAsReady 1) 8192 ≡ R.Accepted o1
+step1 : R.step (fresh options) (Good MarkAsReady 1) enoughRoom ≡ R.Accepted o1
 unfolding R.step tests first if_then_else_
 step1 = refl
 
 -- the second is accepted too; there is one record, of kind 5; then there are two, and connection 1 is taken
 record Calls : Type 0 where
-  second : R.step (o1 .pool) (Good (CheckOut 1) 1) 8192 ≡ R.Accepted o2
+  second : R.step (o1 .pool) (Good (CheckOut 1) 1) enoughRoom ≡ R.Accepted o2
   one : o1 .records ≡ PoolReady ∷ []
   ready : o1 .pool .state ≡ Ready
   written : o1 .pool .written ≡ 1

@@ -9,19 +9,13 @@ use native.Mathlib.Numerals.{add-one}
 use borrow.Author.Tests.{eq-eqb, ne-eqb, eqb-true, le-leb, lt-leb}
 use lib.ListN.{length, drop, getD, drop-of-length-le}
 use lib.Seq.{drop-cons}
+use Rattle.definition.specs.Booleans.{no-first, no-second}
 use Rattle.definition.specs.Words.{if_then_else_, _=?_, _≤?_}
 use Rattle.arguments.specs.declared.Asked.{Asked}
 use Rattle.arguments.specs.declared.Number.{Number}
 use Rattle.arguments.specs.Asked.{digit?, digits, decimal, numberOf, same, budgetWord, usedWord, withBudget, beforeNumber, withUsed, withFile, bad, asked}
 
 -- ── A number ───────────────────────────────────────────────────────────────────────────────────────────────────────────────
-
-no-first : (a b : Bool) → a ≡ false → (a && b) ≡ false
-no-first a b e = ap (λ (x : Bool). x && b) e
-
-no-second : (a b : Bool) → b ≡ false → (a && b) ≡ false
-no-second true b e = e
-no-second false b e = refl
 
 module _ (v c : ℕ) where
   pub is-digit : 48 ≤ c → c ≤ 57 → v * 10 + (c - 48) ≤ 18446744073709551615 → digit? v c ≡ true

@@ -1,5 +1,6 @@
 pub mod Types
 pub mod Words
+pub mod Booleans
 pub mod Events
 pub mod Pool
 pub mod Records
@@ -7,6 +8,7 @@ pub mod Steps
 pub mod Refusals
 pub mod Bytes
 pub mod Day
+pub mod Limits
 pub mod Laws
 pub mod HexLaws
 pub mod RoundTrip

@@ -9,6 +9,7 @@ use native.Mathlib.Omega.{arith}
 use lib.ListN.{length, take, length-map}
 use lib.Seq.{length-take-le}
 use borrow.Author.Tests.{ltb-true, ltb-false}
+use Rattle.definition.specs.Booleans.{by-bool, by-eq}
 use Rattle.definition.specs.Words.{if_then_else_, _<?_}
 use Rattle.definition.specs.Pool as D
 use Rattle.definition.specs.Pool.{fresh, withDefaults, inRange}
@@ -26,7 +27,6 @@ use Rattle.slots.specs.Done.{lay}
 use Rattle.slots.specs.Call.{call}
 use Rattle.slots.specs.declared.Outcome.{Outcome}
 use Rattle.slots.specs.declared.Outcome.the-variants.{Refused, Accepted}
-use Rattle.refinement.specs.Table.{by-eq, by-bool}
 use Rattle.refinement.specs.Stands.{Stands, Formed}
 use Rattle.refinement.specs.Rules.{Rules, listsOf, rules-stand, formed-rules}
 use Rattle.refinement.specs.Transit.{counted}

@@ -6,7 +6,7 @@ use Prim.Native.Nat.{ℕ, _+_, _≤_, _<_}
 use native.Mathlib.Omega.{arith}
 use lib.ListN.{length}
 use borrow.Author.Tests.{lt-ltb, le-ltb, eq-eqb}
-use Rattle.refinement.specs.Table.{by-bool, or-right}
+use Rattle.definition.specs.Booleans.{by-bool, or-right}
 use Rattle.definition.specs.Words.{if_then_else_, _=?_, _<?_}
 use Rattle.definition.specs.Pool.{isClosed}
 use Rattle.definition.specs.Steps.{nothing, kindNo, serviced, _to_holds_}

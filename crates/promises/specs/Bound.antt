@@ -8,6 +8,7 @@ use Prim.Native.Nat.{ℕ, zero, suc, _+_, _-_, _≤_, _<_, min}
 use lib.ListN.{length, length-append, length-map, length-reverse}
 use native.Mathlib.Omega.{arith}
 use borrow.Author.Tests.{ltb-true, leb-false}
+use Rattle.definition.specs.Booleans.{and-left, and-right}
 use Rattle.definition.specs.Laws.{not-first}
 use Rattle.definition.specs.Words.{if_then_else_, _<?_, some?}
 use Rattle.definition.specs.Pool.{Pool, Conn, Waiter, isReady, total, queueLength, withClock, withWaiting, withAvailable, fresh}
@@ -23,7 +24,7 @@ use Rattle.definition.specs.declared.Purpose.{Purpose}
 use Rattle.definition.specs.declared.Purpose.the-variants.{Background}
 use Rattle.definition.specs.Log.{created, closed, sumOf}
 use Rattle.promises.specs.Runs.{arrivals, next}
-use Rattle.promises.specs.Calls.{and-left, and-right, Named, Stepped, no-step, a-step, stepped, passed-kind, passed-named}
+use Rattle.promises.specs.Calls.{Named, Stepped, no-step, a-step, stepped, passed-kind, passed-named}
 use Rattle.promises.specs.Flow.{Calm, step-flow, step-calms, fresh-calm}
 use Rattle.promises.specs.Progress.{flow-lengths}
 use Rattle.promises.specs.Keeps.{removePerished-keeps, handle-keeps, step-options}

@@ -6,6 +6,7 @@ use mathlib.Core.Option.{Option, none, some}
 use Prim.Native.Nat.{ℕ}
 use native.Mathlib.Omega.{arith}
 use borrow.Author.Tests.{not-false}
+use Rattle.definition.specs.Booleans.{and-left}
 use Rattle.definition.specs.Laws.{not-first}
 use Rattle.definition.specs.Words.{if_then_else_}
 use Rattle.definition.specs.Pool.{Pool, isClosed, has, withClock}
@@ -16,14 +17,6 @@ use Rattle.definition.specs.declared.Event.the-variants.{CheckOut, WarmPool, Ab
 use Rattle.definition.specs.declared.Frame.{Frame}
 use Rattle.definition.specs.declared.Frame.the-variants.{Good, Bad}
 use Rattle.definition.specs.declared.Refusal.{Refusal}
-
-pub and-left : (a b : Bool) → a && b ≡ true → a ≡ true
-and-left true b h = refl
-and-left false b h = h
-
-pub and-right : (a b : Bool) → a && b ≡ true → b ≡ true
-and-right true b h = h
-and-right false b h = absurd (false≢true h)
 
 abbrev pub Passed : Pool → Event → (now room : ℕ) → Type 0
 Passed p e now room = first (tests p (Good e now) room) ≡ none

@@ -4,6 +4,7 @@ use mathlib.Core.Bool.{Bool, true, false, true≢false, not, _&&_, _||_, and-tru
 use mathlib.Core.List.{List, [], _∷_, _++_, map, append-nil, append-assoc, map-append}
 use Prim.Native.Nat.{ℕ, zero, suc, _+_}
 use lib.ListN.{length}
+use Rattle.definition.specs.Booleans.{and-left}
 use Rattle.definition.specs.Words.{if_then_else_, _=?_}
 use Rattle.definition.specs.Pool.{Pool, Conn, Waiter, isReady, isClosed, withClock, withWaiting, fresh}
 use Rattle.definition.specs.Records.{Record, PoolCleared, Interrupt, Reply, Cleared}
@@ -20,7 +21,7 @@ use Rattle.definition.specs.declared.ClosedReason.the-variants.{PoolClosed}
 use Rattle.definition.specs.Log.{answers, answered, ids}
 use Rattle.promises.specs.Runs.{arrivals, taken, accepted}
 use Rattle.definition.specs.Sentences.{answered-append, tellings, checkOut-says, front-answered}
-use Rattle.promises.specs.Calls.{and-left, Stepped, no-step, a-step, stepped, passed-open}
+use Rattle.promises.specs.Calls.{Stepped, no-step, a-step, stepped, passed-open}
 
 pub record Flow (arrived : List ℕ) (p : Pool) (o : Out Pool) : Type 0 where
   pub same : ids (p .waiting) ++ arrived ≡ answered (o .records) ++ ids (o .pool .waiting)

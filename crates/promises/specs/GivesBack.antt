@@ -3,13 +3,13 @@ use mathlib.Core.Path.{_≡_, refl, sym, _∙_}
 use mathlib.Core.Bool.{Bool, true, false, true≢false, false≢true, not, _&&_}
 use mathlib.Core.List.{List, [], _∷_, _++_, reverse, reverse-cons, append-nil}
 use borrow.Author.Tests.{not-true}
+use Rattle.definition.specs.Booleans.{and-left, and-right}
 use Rattle.definition.specs.Words.{if_then_else_, any?, _∷ʳ_}
 use Rattle.definition.specs.Pool.{Pool, Conn, Waiter, perished, withState, withWaiting}
 use Rattle.definition.specs.Steps.{Out, Act, _>>_, canService, checkOut, serveFront, service}
 use Rattle.definition.specs.declared.ConnectionState.the-variants.{CheckedIn}
 use Rattle.definition.specs.Sentences.{if-both, All, FrontFails, found, others, Took, takes}
 use Rattle.promises.specs.Runs.{frontAbandoned, givesBack}
-use Rattle.promises.specs.Calls.{and-left, and-right}
 
 pub record GaveBack (q : Pool) (o : Out Pool) : Type 0 where
   pub given : Conn

@@ -6,6 +6,7 @@ use Prim.Native.Nat.{ℕ, suc, _+_, _≤_, _<_, min}
 use lib.ListN.{length, length-append, length-map}
 use native.Mathlib.Omega.{arith}
 use borrow.Author.Tests.{ltb-true}
+use Rattle.definition.specs.Booleans.{and-left, and-right}
 use Rattle.definition.specs.Words.{if_then_else_, _<?_, any?, some?}
 use Rattle.definition.specs.Pool.{Pool, Waiter, isReady, isClosed, withClock, withWaiting}
 use Rattle.definition.specs.Steps.{Out, _>>_, nothing, tellAll, enter, abandon, repin, shut, handle, canService, serveFront, service, serviced, event}
@@ -17,7 +18,7 @@ use Rattle.definition.specs.declared.Frame.the-variants.{Good, Bad}
 use Rattle.definition.specs.Log.{answered, ids}
 use Rattle.promises.specs.Runs.{arrivals, taken, accepted, result, next, frontAbandoned, givesBack, puts, oneIf, countOf, times}
 use Rattle.definition.specs.Sentences.{answered-append, checkOut-says}
-use Rattle.promises.specs.Calls.{and-left, and-right, Stepped, no-step, a-step, stepped, passed-open}
+use Rattle.promises.specs.Calls.{Stepped, no-step, a-step, stepped, passed-open}
 use Rattle.promises.specs.Flow.{Flow, Calm, handle-flow, step-flow, step-calms, run-flow}
 
 if-true : {A : Type 0} {b : Bool} (x y : A) → b ≡ true → (if b then x else y) ≡ x

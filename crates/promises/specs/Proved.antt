@@ -5,6 +5,7 @@ use mathlib.Core.List.{List, [], _∷_, _++_, List·Memᴰ, List·Memᴰ·head, 
 use Prim.Native.Nat.{ℕ, _+_, _≤_, _<_}
 use native.Mathlib.Omega.{arith}
 use borrow.Author.Tests.{leb-true, eqb-true, ne-eqb, eq-eqb}
+use Rattle.definition.specs.Limits.{limits-of}
 use Rattle.definition.specs.Words.{if_then_else_, _≤?_, _=?_}
 use Rattle.definition.specs.Pool.{Pool, fresh, slotCount, withDefaults, inRange, withClock}
 use Rattle.definition.specs.Steps.{Out, _>>_, handle}
@@ -14,7 +15,7 @@ use Rattle.definition.specs.declared.Refusal.the-variants.{OptionsOutOfRange}
 use Rattle.definition.specs.Log.{created, closed, answered, ids, often, sumOf, Rising}
 use Rattle.promises.specs.Promises.{Fresh, MadeFresh, Connections, HandsOutFree, Requests, InTime, FewClosed, FewRecords, Serials, poolAfter, logOf, standing}
 use Rattle.definition.specs.Sentences.{pooled-was-available}
-use Rattle.promises.specs.Calls.{and-left, and-right, stepped}
+use Rattle.promises.specs.Calls.{stepped}
 use Rattle.promises.specs.Flow.{run-flow, run-calms, fresh-calm}
 use Rattle.promises.specs.Keeps.{run-rising, run-options, run-written}
 use Rattle.promises.specs.Progress.{progress}
@@ -25,14 +26,6 @@ use Rattle.promises.specs.RecordCounts.{service-closes, step-few}
 
 -- ── Made ───────────────────────────────────────────────────────────────────────────────────────────────────────────────
 
-in-range : (o : Options) → inRange o ≡ true → (o .minimum ≤ o .maximum) × (o .maximum ≤ slotCount)
-unfolding inRange
-in-range o h =
-    let most? = 1 ≤? o .maximum && o .maximum ≤? slotCount in
-    let fewest? = o .minimum ≤? o .maximum in
-    let k = and-left (most? && fewest?) (1 ≤? o .connecting) (and-left (most? && fewest? && 1 ≤? o .connecting) _ h) in
-    (leb-true _ _ (and-right most? fewest? k), leb-true _ _ (and-right (1 ≤? o .maximum) _ (and-left most? fewest? k)))
-
 pub made : MadeFresh
 unfolding make if_then_else_
 made asked p h = go (inRange (withDefaults asked)) refl h
@@ -41,8 +34,8 @@ made asked p h = go (inRange (withDefaults asked)) refl h
         → (if b then Made (fresh (withDefaults asked)) else NotMade OptionsOutOfRange) ≡ Made p → Fresh asked p
     go true e k =
         let same : p ≡ fresh (withDefaults asked) = cc in
-        let fine = in-range (withDefaults asked) e in
-        record { is-fresh = same; ordered = rw same (fine .0); small = rw same (fine .1) }
+        let fine = limits-of (withDefaults asked) e in
+        record { is-fresh = same; ordered = rw same (fine .minimum); small = rw same (fine .maximum) }
     go false e k = let z : _≡_ {A = ℕ} 0 1 = cc in absurd (omega arith)
 
 -- ── Connections ────────────────────────────────────────────────────────────────────────────────────────────────────────

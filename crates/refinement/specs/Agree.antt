@@ -6,11 +6,12 @@ use mathlib.Core.Option.{Option, none, some}
 use Prim.Native.Nat.{ℕ, _<_}
 use native.Mathlib.Omega.{arith}
 use lib.ListN.{length, getD, set}
+use Rattle.definition.specs.Booleans.{by-eq}
 use Rattle.definition.specs.Words.{if_then_else_, _∷ʳ_}
 use Rattle.definition.specs.Pool.{Conn, without, setState, stateNo}
 use Rattle.definition.specs.declared.ConnectionState.{ConnectionState}
 use Rattle.slots.specs.View.{Slot, vacant, withState}
-use Rattle.refinement.specs.Table.{look, Unique, Fresh, by-eq, look-other, look-at, look-none, look-put-new, look-put-old, cell, lookup, Once, lookup-other, lookup-gone, once-without, lookup-snoc-new, lookup-snoc-other, once-snoc, lookup-set, lookup-set-other, once-set}
+use Rattle.refinement.specs.Table.{look, Unique, Fresh, look-other, look-at, look-none, look-put-new, look-put-old, cell, lookup, Once, lookup-other, lookup-gone, once-without, lookup-snoc-new, lookup-snoc-other, once-snoc, lookup-set, lookup-set-other, once-set}
 
 -- of the numbers of states
 abbrev pub Class : Type 0

@@ -12,16 +12,10 @@ use Rattle.definition.specs.declared.Options.{Options}
 use Rattle.definition.specs.declared.PoolState.{PoolState}
 use Rattle.definition.specs.declared.PoolState.the-variants.{New}
 use Rattle.slots.specs.View as View
+use Rattle.definition.specs.Limits.{Limits}
 use Rattle.slots.specs.View.{SlotPool, Slot, slotPool, vacant, waiterOf}
 use Rattle.slots.specs.Slots as S
 use Rattle.slots.specs.declared.Head.{Head}
-
--- options within their limits
-pub record Limits (o : Options) : Type 0 where
-  pub one : 1 ≤ o .maximum
-  pub maximum : o .maximum ≤ slotCount
-  pub minimum : o .minimum ≤ o .maximum
-  pub connecting : (1 ≤ o .connecting) × (o .connecting ≤ slotCount)
 
 -- waiters came one after the other: each id is above the one before it, and none is above the last request
 abbrev pub Rises : ℕ → ℕ → List Waiter → Type 0

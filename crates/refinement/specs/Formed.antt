@@ -8,6 +8,8 @@ use Prim.Native.Nat.{ℕ, zero, suc, _+_, _≤_, _*_}
 use native.Mathlib.Omega.{arith}
 use lib.ListN.{length, getD, replicate, length-replicate, length-append}
 use borrow.Author.Tests.{ltb-false, leb-true}
+use Rattle.definition.specs.Limits.{Limits, limits-of}
+use Rattle.definition.specs.Booleans.{by-bool}
 use Rattle.definition.specs.Words.{if_then_else_, _<?_, _≤?_, _=?_}
 use Rattle.definition.specs.Pool.{queueLength, Pool, fresh, inRange, slotCount, isClosed}
 use Rattle.definition.specs.Steps.{_>>_, kindNo}
@@ -32,10 +34,10 @@ use Rattle.slots.specs.Call as C
 use Rattle.slots.specs.Call.{World, world, target}
 use Rattle.slots.specs.declared.Outcome.{Outcome}
 use Rattle.slots.specs.declared.Outcome.the-variants.{Refused, Accepted}
-use Rattle.refinement.specs.Table.{by-bool, and-both, look-none, lookup, one-zero}
+use Rattle.refinement.specs.Table.{look-none, lookup, one-zero}
 use Rattle.refinement.specs.Agree.{Class, Agrees, only, only-none}
 use Rattle.refinement.specs.Mirror.{isLent, isPending}
-use Rattle.refinement.specs.Alike.{Limits, freshSlots, freshHead, alike-fresh}
+use Rattle.refinement.specs.Alike.{freshSlots, freshHead, alike-fresh}
 use Rattle.refinement.specs.Stands.{Stands, Formed}
 use Rattle.refinement.specs.Tests.{Passed, tests-passed}
 use Rattle.refinement.specs.Leaves.{news-most, event-leaves, closed-leaves, close-leaves}
@@ -49,15 +51,6 @@ overBlank h = poolOf h (replicate (2 * slotCount) 0) (replicate slotCount 0) (re
 
 pub fresh-parts : (o : Options) → overBlank (freshHead o) ≡ freshSlots o
 fresh-parts o = rw (slots-blank (2 * slotCount) (2 * slotCount) (omega arith) (omega arith), column-blank 0 (2 * slotCount) (omega arith), column-blank 1 (2 * slotCount) (omega arith))
-
-pub limits-of : (o : Options) → inRange o ≡ true → Limits o
-unfolding inRange
-limits-of o h =
-    let d = and-both _ (o .connecting ≤? slotCount) h in
-    let c = and-both _ (1 ≤? o .connecting) (d .0) in
-    let b = and-both _ (o .minimum ≤? o .maximum) (c .0) in
-    let a = and-both (1 ≤? o .maximum) (o .maximum ≤? slotCount) (b .0) in
-    record { one = leb-true _ _ (a .0); maximum = leb-true _ _ (a .1); minimum = leb-true _ _ (b .1); connecting = (leb-true _ _ (c .1), leb-true _ _ (d .1)) }
 
 pub zeros : (n j : ℕ) → getD {A = ℕ} (replicate n 0) j 0 ≡ 0
 zeros zero j = refl

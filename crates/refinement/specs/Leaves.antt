@@ -27,6 +27,9 @@ pub record Leaves (s : Bool) (k : ℕ) (p : SlotPool) (o : Out SlotPool) : Type 
   pub next : o .pool .nextId ≤ p .nextId + k
   pub state : s ≡ true → o .pool .state ≡ p .state
 
+pub serial-left : {k : ℕ} (p q : SlotPool) {o : Out SlotPool} → q ≡ o .pool → Leaves false k p o → q .serial ≡ p .serial
+serial-left p q e l = ap (λ (x : SlotPool). x .serial) e ∙ l .serial
+
 module _ {s : Bool} where
   -- an act that changes neither
   pub leaves-all : (k : ℕ) (p : SlotPool) {r : List Record} → Leaves s k p (record { pool = p; records = r })
@@ -78,7 +81,7 @@ module _ {s : Bool} where
   unfolding S.closePerishedAt
   closePerished-leaves i p = closeAt-leaves _ i _ p
 
-  tellAll-leaves : (r : _) (p : SlotPool) → Leaves s 0 p (S.tellAll r p)
+  pub tellAll-leaves : (r : _) (p : SlotPool) → Leaves s 0 p (S.tellAll r p)
   unfolding S.tellAll _>>_
   tellAll-leaves r p = record { options = refl; serial = refl; more = omega arith; next = omega arith; state = λ _. refl }
 
@@ -136,7 +139,7 @@ module _ {s : Bool} where
       (λ _. leaves-less (omega arith) (leaves-then (S.createPendingConnection S.backgroundNo) (S.fillUp k) p (create-leaves S.backgroundNo p) (fillUp-leaves k _)))
       (λ _. leaves-all (suc k) p)
 
-  closeFront-leaves : (k : ℕ) (p : SlotPool) → Leaves s 0 p (S.closeFront k p)
+  pub closeFront-leaves : (k : ℕ) (p : SlotPool) → Leaves s 0 p (S.closeFront k p)
   unfolding S.closeFront
   closeFront-leaves zero p = leaves-all 0 p
   closeFront-leaves (suc k) p = leaves-then S.popFront _ p (popFront-leaves p) (leaves-then (S.closeAt _ _ _) (S.closeFront k) _ (closeAt-leaves _ _ _ _) (closeFront-leaves k _))

@@ -7,12 +7,13 @@ use Prim.Native.Nat.{ℕ, zero, suc, _≤_, _<_}
 use native.Mathlib.Omega.{arith}
 use lib.ListN.{length, getD, set, length-set}
 use lib.Seq.{getD-set-same, getD-set-other}
+use Rattle.definition.specs.Booleans.{by-eq}
 use Rattle.definition.specs.Words.{_∷ʳ_}
 use Rattle.definition.specs.Pool.{slotCount, Conn, without}
 use Rattle.definition.specs.Steps.{_to_holds_}
 use Rattle.definition.specs.declared.ConnectionState.the-variants.{CheckedIn}
 use Rattle.slots.specs.View.{Slot, vacant}
-use Rattle.refinement.specs.Table.{Unique, Fresh, fresh-old, by-eq, unique-put, cell, connIn}
+use Rattle.refinement.specs.Table.{Unique, Fresh, fresh-old, unique-put, cell, connIn}
 use Rattle.refinement.specs.Agree.{Class, Agrees, agrees-same, agrees-in, agrees-out}
 
 -- the classes: lent (2 to 4), pending (5 and 6)

@@ -6,6 +6,7 @@ use native.Mathlib.Omega.{arith}
 use lib.ListN.{length, getD, take}
 use lib.Seq.{getD-take, length-take-le}
 use borrow.Author.Tests.{eqb-false}
+use Rattle.definition.specs.Booleans.{by-bool, by-lt, or-right}
 use Rattle.definition.specs.Words.{if_then_else_, _<?_, _=?_}
 use Rattle.definition.specs.Pool.{queueLength, slotCount, Pool, withWaiting, isClosed}
 use Rattle.definition.specs.Steps.{serviced, nothing, _>>_}
@@ -18,7 +19,6 @@ use Rattle.slots.specs.Slots as S
 use Rattle.slots.specs.StepLaws.{room-to-create}
 use Rattle.slots.specs.Call.{target}
 use Rattle.slots.specs.Needs.{CanCreate, CanClose, CanShelve, CanLeave, CanPrune, CanFill, CanQueue, CanTell, CanClear, CanTake, CanWarm, CanServe}
-use Rattle.refinement.specs.Table.{by-lt, by-bool, or-right}
 use Rattle.refinement.specs.Mirror.{isLent, isPending, Listed, all-at}
 use Rattle.refinement.specs.Stands.{Stands, Formed}
 use Rattle.refinement.specs.Transit.{counted, at-most, one-less}
@@ -45,8 +45,8 @@ module _ {p : SlotPool} {m : Pool} (st : Stands p m) where
       rw (← getD-take n (p .available) j 0 h) (w .0))
       (λ h. omega (arith, st .table .rest j h))
 
-  -- all that is counted fits: there are 64 slots
-  counts : (p .availables + p .pendings ≤ p .total) × (p .total ≤ slotCount)
+  -- all that is counted fits the slots
+  pub counts : (p .availables + p .pendings ≤ p .total) × (p .total ≤ slotCount)
   counts = (omega (arith, counted (st .table), st .table .total, st .table .pendings), at-most (st .table))
 
   pub can-prune : CanPrune p

@@ -9,6 +9,7 @@ use native.Mathlib.Omega.{arith}
 use lib.ListN.{length, getD, set, take, drop, length-set, length-map}
 use lib.Seq.{getD-set-other, take-suc-set, take-set-lt, length-take-le, getD-take}
 use borrow.Author.Tests.{eq-eqb, ne-eqb, lt-ltb, le-ltb, le-leb, lt-leb}
+use Rattle.definition.specs.Booleans.{by-lt, or-false, or-true}
 use Rattle.definition.specs.Words.{if_then_else_, _<?_, _≤?_, _=?_, _∷ʳ_, any?}
 use Rattle.definition.specs.Pool.{queueLength, Waiter}
 use Rattle.definition.specs.Events.{bit}
@@ -16,7 +17,6 @@ use Rattle.slots.specs.Order.{placeOf, shifted}
 use Rattle.slots.specs.OrderLaws.{length-shifted, place-found}
 use Rattle.slots.specs.View.{waiterOf}
 use Rattle.slots.specs.Slots.{zeroed}
-use Rattle.refinement.specs.Table.{by-lt}
 use Rattle.refinement.specs.Alike.{Rises, Queue}
 use Rattle.refinement.specs.Order.{take-front, take-rest, shifted-rest, place-not}
 
@@ -47,14 +47,6 @@ waiter-new n false =
 -- the mark that a waiter is abandoned
 abbrev pub marked : ℕ → Waiter → Waiter
 marked n w = record { id = w .id; warm = w .warm; abandoned = w .abandoned || w .id =? n }
-
-or-true : (b : Bool) → (b || true) ≡ true
-or-true true = refl
-or-true false = refl
-
-or-false : (b : Bool) → (b || false) ≡ b
-or-false true = refl
-or-false false = refl
 
 waiter-marked : (n w : ℕ) → w / 4 ≡ n → w % 4 < 2 → waiterOf (w + 2) ≡ marked n (waiterOf w)
 waiter-marked n w e h =

@@ -9,6 +9,8 @@ use native.Mathlib.Omega.{arith}
 use lib.ListN.{length, getD, take, length-map}
 use lib.Seq.{length-take-le}
 use borrow.Author.Tests.{eq-eqb, ne-eqb}
+use Rattle.definition.specs.Limits.{Limits}
+use Rattle.definition.specs.Booleans.{by-bool, by-eq}
 use Rattle.definition.specs.Words.{if_then_else_, _=?_}
 use Rattle.definition.specs.Pool.{queueLength, slotCount, Pool, Conn, without, stateOfNo}
 use Rattle.definition.specs.Refusals.{mostNextId}
@@ -17,10 +19,10 @@ use Rattle.slots.specs.View.{SlotPool, Slot, Whole, vacant}
 use Rattle.slots.specs.View as View
 use Rattle.slots.specs.Slots as S
 use Rattle.slots.specs.Needs.{taken}
-use Rattle.refinement.specs.Table.{by-eq, by-bool, Unique, unique-tail, look, cell, connIn, lookup, Once, none-not-some, lookup-other, lookup-gone, once-without, length-without, one, one-pos, one-zero}
+use Rattle.refinement.specs.Table.{Unique, unique-tail, look, cell, connIn, lookup, Once, none-not-some, lookup-other, lookup-gone, once-without, length-without, one, one-pos, one-zero}
 use Rattle.refinement.specs.Agree.{Class, Agrees, only}
 use Rattle.refinement.specs.Mirror.{isLent, isPending, All, Distinct, Listed, Used, view}
-use Rattle.refinement.specs.Alike.{Limits, Rises, listsWith, alike-lists}
+use Rattle.refinement.specs.Alike.{Rises, listsWith, alike-lists}
 use Rattle.refinement.specs.Stands.{Stands, Formed}
 use Rattle.refinement.specs.Transit.{counted}
 use Rattle.refinement.specs.Needs.{whole}

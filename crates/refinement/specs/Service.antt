@@ -6,6 +6,7 @@ use Prim.Native.Nat.{ℕ, zero, suc, _-_, _<_}
 use native.Mathlib.Omega.{arith}
 use lib.ListN.{length, getD, take, length-reverse}
 use borrow.Author.Tests.{leb-false, eq-eqb, ne-eqb, lt-ltb}
+use Rattle.definition.specs.Booleans.{by-eq}
 use Rattle.definition.specs.Words.{if_then_else_, _<?_, _≤?_, _=?_, _∷ʳ_, some?}
 use Rattle.definition.specs.Pool as P
 use Rattle.definition.specs.Pool.{slotCount, Pool, Conn, Waiter, isReady, total}
@@ -20,7 +21,6 @@ use Rattle.slots.specs.View.{SlotPool, waiterOf}
 use Rattle.slots.specs.View as View
 use Rattle.slots.specs.Slots as S
 use Rattle.slots.specs.StepLaws.{room-to-create}
-use Rattle.refinement.specs.Table.{by-eq}
 use Rattle.refinement.specs.Stands.{Stands, Same}
 use Rattle.refinement.specs.Transit.{counted, at-most}
 use Rattle.refinement.specs.Queue.{others, queue-front, queue-left}

@@ -9,42 +9,12 @@ use lib.Dec.{ltb}
 use lib.ListN.{length, getD, set, length-set}
 use lib.Seq.{getD-set-same, getD-set-other}
 use borrow.Author.Tests.{eq-eqb, ne-eqb, eqb-true, eqb-false, ltb-true, ltb-false}
+use Rattle.definition.specs.Booleans.{by-eq}
 use Rattle.definition.specs.Words.{if_then_else_, _=?_, _∷ʳ_}
 use Rattle.definition.specs.Pool.{Conn, has, find, without, setState, stateNo}
 use Rattle.definition.specs.declared.ConnectionState.{ConnectionState}
 use Rattle.slots.specs.View.{Slot, vacant, withState, slot}
 use Rattle.slots.specs.Needs.{taken}
-
--- a case by a test
-pub by-eq : {A : Type 0} (a b : ℕ) → (a ≡ b → A) → ((a ≡ b → ⊥) → A) → A
-by-eq {A} a b f g = go (a =? b) refl
-  where
-    go : (t : Bool) → (a =? b) ≡ t → A
-    go true e = f (eqb-true a b e)
-    go false e = g (eqb-false a b e)
-
-pub by-lt : {A : Type 0} (a b : ℕ) → (a < b → A) → (b ≤ a → A) → A
-by-lt {A} a b f g = go (ltb a b) refl
-  where
-    go : (t : Bool) → ltb a b ≡ t → A
-    go true e = f (ltb-true a b e)
-    go false e = g (ltb-false a b e)
-
-pub by-bool : {A : Type 0} (b : Bool) → (b ≡ true → A) → (b ≡ false → A) → A
-by-bool true f g = f refl
-by-bool false f g = g refl
-
-pub and-both : (a b : Bool) → (a && b) ≡ true → (a ≡ true) × (b ≡ true)
-and-both true b h = (refl, h)
-and-both false b h = absurd (false≢true h)
-
-pub or-left : (a b : Bool) → (a || b) ≡ false → a ≡ false
-or-left true b h = absurd (true≢false h)
-or-left false b h = refl
-
-pub or-right : (a b : Bool) → (a || b) ≡ false → b ≡ false
-or-right true b h = absurd (true≢false h)
-or-right false b h = h
 
 -- ── Slots ──────────────────────────────────────────────────────────────────────────────────────────────────────────────
 

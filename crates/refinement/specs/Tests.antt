@@ -7,6 +7,7 @@ use Prim.Native.Nat.{ℕ, _≤_, _<_, _/_}
 use native.Mathlib.Omega.{arith}
 use lib.ListN.{length, List·getD-eq-default}
 use borrow.Author.Tests.{eqb-true, ne-eqb, leb-false, ltb-true, ltb-false, not-false}
+use Rattle.definition.specs.Booleans.{by-bool, by-eq, by-lt, and-left, and-right}
 use Rattle.definition.specs.Laws.{not-first}
 use Rattle.definition.specs.Words.{if_then_else_, _<?_, _≤?_, _=?_}
 use Rattle.definition.specs.Pool as P
@@ -27,7 +28,7 @@ use Rattle.slots.specs.Slots as S
 use Rattle.slots.specs.Call as C
 use Rattle.slots.specs.declared.Verdict.the-variants.{Accept}
 use Rattle.slots.specs.Call.{slotOf, waiterOf?, stateOf, timeOf, target}
-use Rattle.refinement.specs.Table.{look-at, look-none, by-eq, by-lt, by-bool, and-both, cell, lookup, has-it, has-not}
+use Rattle.refinement.specs.Table.{look-at, look-none, cell, lookup, has-it, has-not}
 use Rattle.refinement.specs.Agree.{Class, Agrees, only, only-out, only-none}
 use Rattle.refinement.specs.Mirror.{isLent, isPending, lengths, inIds}
 use Rattle.refinement.specs.Stands.{Stands}
@@ -197,9 +198,9 @@ module _ {p : SlotPool} {m : Pool} (st : Stands p m) where
   kind-fit (CheckOut n) now h = new-fit p n h
   kind-fit (WarmPool n) now h = new-fit p n h
   kind-fit (Abandon n) now h =
-      let b = and-both (waiterOf? p n <? p .waitings) _ (not-false _ (not-first NotWaiting _ [] h .0)) in
-      let low : waiterOf? p n < p .waitings = ltb-true _ _ (b .0) in
-      record { place = low; id = place-found (λ v. v / 4) n (p .waitings) (p .waiters) low; heard = ltb-true _ 2 (b .1) }
+      let b = not-false _ (not-first NotWaiting _ [] h .0) in
+      let low : waiterOf? p n < p .waitings = ltb-true _ _ (and-left _ _ b) in
+      record { place = low; id = place-found (λ v. v / 4) n (p .waitings) (p .waiters) low; heard = ltb-true _ 2 (and-right (waiterOf? p n <? p .waitings) _ b) }
   kind-fit (CheckIn n errored executing letGo) now h = lent-fit n (not-false _ (not-first WrongState _ _ h .0))
   kind-fit (Clear timeout cause) now h = tt
   kind-fit MarkAsReady now h = tt

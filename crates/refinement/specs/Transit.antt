@@ -10,6 +10,7 @@ use native.Mathlib.Numerals.{add-one}
 use native.Mathlib.Omega.{arith}
 use lib.ListN.{length, getD, set, take, drop, length-set, length-append, length-map}
 use lib.Seq.{getD-set-same, getD-set-other, set-getD, set-set, take-suc, take-suc-set, take-set-le, length-take-le}
+use Rattle.definition.specs.Booleans.{by-eq}
 use Rattle.definition.specs.Words.{_∷ʳ_}
 use Rattle.definition.specs.Pool.{slotCount, Conn, without, setState, stateNo}
 use Rattle.definition.specs.declared.ConnectionState.{ConnectionState}
@@ -18,7 +19,7 @@ use Rattle.slots.specs.Order.{shifted}
 use Rattle.slots.specs.OrderLaws.{length-shifted}
 use Rattle.slots.specs.View.{Slot, vacant, withState}
 use Rattle.slots.specs.Needs.{taken}
-use Rattle.refinement.specs.Table.{Fresh, fresh-zero, by-eq, look-at, cell, connIn, lookup, length-without, length-setState, one-pos, one-zero, taken-put, taken-at-most}
+use Rattle.refinement.specs.Table.{Fresh, fresh-zero, look-at, cell, connIn, lookup, length-without, length-setState, one-pos, one-zero, taken-put, taken-at-most}
 use Rattle.refinement.specs.Agree.{Class, Agrees, only, only-in, agrees-set}
 use Rattle.refinement.specs.Mirror.{isLent, isPending, All, all-last, distinct-last, Mirror, mirror-put, mirror-list, mirror-front, mirror-back, inIds, inSlots, lengths, fresh-held, same, into, out, unlisted, Listed, connAt, view}
 use Rattle.refinement.specs.Stands.{Table}

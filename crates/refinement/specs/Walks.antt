@@ -6,6 +6,7 @@ use Prim.Native.Nat.{ℕ, zero, suc, _+_, _-_, _≤_, _<_, min}
 use native.Mathlib.Omega.{arith}
 use lib.ListN.{length, getD, set}
 use borrow.Author.Tests.{lt-ltb, le-ltb}
+use Rattle.definition.specs.Booleans.{by-lt}
 use Rattle.definition.specs.Words.{if_then_else_, _<?_, _∷ʳ_}
 use Rattle.definition.specs.Pool as P
 use Rattle.definition.specs.Pool.{Pool, Conn, isReady, staleIn, idleFor, total}
@@ -21,7 +22,6 @@ use Rattle.slots.specs.Order.{shifted}
 use Rattle.slots.specs.View.{SlotPool}
 use Rattle.slots.specs.View as View
 use Rattle.slots.specs.Slots as S
-use Rattle.refinement.specs.Table.{by-lt}
 use Rattle.refinement.specs.Mirror.{connAt}
 use Rattle.refinement.specs.Alike.{Alike, alike-table}
 use Rattle.refinement.specs.Stands.{Table, Stands, Same}

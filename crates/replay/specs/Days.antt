@@ -6,7 +6,7 @@ use Prim.Native.Nat.{ℕ, _+_, _-_, _≤_}
 use native.Mathlib.Omega.{arith}
 use borrow.Author.Tests.{eq-eqb, eqb-true, le-leb}
 use lib.ListN.{length, drop, replicate, length-append, length-replicate}
-use Rattle.refinement.specs.Table.{and-both}
+use Rattle.definition.specs.Booleans.{and-left}
 use Rattle.definition.specs.Words.{if_then_else_, _=?_, _≤?_}
 use Rattle.definition.specs.Day.{logOf}
 use Rattle.definition.specs.Refusals.{enoughRoom}
@@ -65,7 +65,7 @@ module _ (room budget : ℕ) (text : List ℕ) where
   told-whole : (b : Bool) → all? room got ≡ b → toldOf b got .whole ≡ true → Writes (toldOf b got .took) budget text
   unfolding if_then_else_
   told-whole true e h =
-      let z : got .rest ≡ [] = no-length (got .rest) (eqb-true (length (got .rest)) 0 (and-both _ _ e .0)) in
+      let z : got .rest ≡ [] = no-length (got .rest) (eqb-true (length (got .rest)) 0 (and-left _ _ e)) in
       subst (λ (t : Took Play ℕ). Writes t budget text) (ap (ended onSlots) (some-reads onSlots room (opening budget) text) ∙ all-read got z)
       (opening-writes budget text)
   told-whole false e h = absurd (false≢true h)

@@ -6,6 +6,7 @@ use Prim.Native.Nat.{ℕ, _+_, _-_, _≤_, _<_}
 use native.Mathlib.Omega.{arith}
 use borrow.Author.Tests.{eq-eqb, ne-eqb, le-leb, lt-leb}
 use lib.ListN.{length, take, drop, length-append, length-drop}
+use Rattle.definition.specs.Booleans.{no-first, no-second}
 use Rattle.definition.specs.Words.{if_then_else_, _=?_, _≤?_}
 use Rattle.big_endian.specs.Laws.{tail-more}
 use Rattle.lines.specs.Machine.{Took, lineRoom}
@@ -16,13 +17,6 @@ use Rattle.session.specs.declared.Session.{Session}
 use Rattle.session.specs.Code.{poolIn, viewIn, opening, Begins, Went, Finishes}
 use Rattle.replay.specs.declared.Day.{Day}
 use Rattle.replay.specs.Days.{all?, toldOf, dayIn, Logged}
-
-no-second : (a b : Bool) → b ≡ false → (a && b) ≡ false
-no-second true b e = e
-no-second false b e = refl
-
-no-first : (a b : Bool) → a ≡ false → (a && b) ≡ false
-no-first a b e = ap (λ (x : Bool). x && b) e
 
 module _ (budget : ℕ) (text o o' : List ℕ) (s₀ s : Session) (n w : ℕ) (begins : Begins budget s₀) (went : Went s₀ text o o' s n w)
     (long : length o' ≡ length o) where

@@ -9,6 +9,7 @@ use lib.ListN.{length, getD, set, replicate, length-set, length-replicate}
 use lib.Seq.{getD-set-same, getD-set-other}
 use lib.Dec.{eqb}
 use borrow.Author.Tests.{lt-ltb, le-ltb, le-leb, lt-leb, eq-eqb, ne-eqb}
+use Rattle.definition.specs.Booleans.{by-eq, or-false, or-true}
 use Rattle.slots.specs.Columns.{column-at}
 use Rattle.slots.specs.View.{orderIn}
 use Rattle.definition.specs.Pool.{queueLength, slotCount, inRange}
@@ -19,7 +20,6 @@ use Rattle.refinement.specs.Agree.{Class}
 use Rattle.refinement.specs.Formed.{zeros}
 use Rattle.refinement.specs.Mirror.{isPending}
 use Rattle.refinement.specs.Rules.{isShelved, oneIf}
-use Rattle.refinement.specs.Table.{by-eq}
 use Rattle.rules.specs.Tests.{every, tally, among, blankPast, isTaken, before, waiterFits, newId, idsBelow, idsDistinct, slotsFit, howMany, countsRight, listedAt, orderRight, blankFrom, queueRises, keepsRules}
 
 -- ── every ──
@@ -170,10 +170,6 @@ counting-end states i a b c total pending available x r h v ex er =
 
 -- ── among ──
 
-or-true : (b : Bool) → (b || true) ≡ true
-or-true true = refl
-or-true false = refl
-
 among-none : (x : ℕ) (l : List ℕ) → among x 0 l ≡ false
 unfolding among
 among-none x l = refl
@@ -294,10 +290,6 @@ met-more i a met low m e =
     by-eq e (getD a i 0)
     (λ q. rw (add-one i, q, getD-set-same met (getD a i 0) 1 0 low, eq-eqb (getD a i 0) (getD a i 0) refl, or-true))
     (λ q. rw (add-one i, getD-set-other met (getD a i 0) e 1 0 q, ne-eqb (getD a i 0) e (λ z. q (sym z)), or-false) (m e))
-  where
-    or-false : (b : Bool) → (b || false) ≡ b
-    or-false true = refl
-    or-false false = refl
 
 met-none : (a : List ℕ) → Met a 0 (replicate slotCount 0)
 unfolding among

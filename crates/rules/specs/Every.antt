@@ -6,30 +6,16 @@ use Prim.Native.Nat.{ℕ, zero, suc, _+_, _/_, _≤_, _<_}
 use native.Mathlib.Omega.{arith}
 use lib.ListN.{length, getD}
 use borrow.Author.Tests.{eq-eqb, ne-eqb, eqb-false, not-true}
+use Rattle.definition.specs.Booleans.{and-left, and-right, both-true, by-eq, or-left, or-right}
 use Rattle.definition.specs.Words.{if_then_else_, _=?_}
 use Rattle.slots.specs.View.{Slot, waiterOf, vacant}
 use Rattle.slots.specs.Needs.{taken}
-use Rattle.refinement.specs.Table.{by-eq, by-bool, one, one-pos, one-zero, or-left, or-right}
+use Rattle.refinement.specs.Table.{one, one-pos, one-zero}
 use Rattle.refinement.specs.Agree.{Class}
 use Rattle.refinement.specs.Mirror.{All, Distinct, all-at}
 use Rattle.refinement.specs.Alike.{Rises}
 use Rattle.refinement.specs.Rules.{many, collect, oneIf, many-none, many-oneIf, taken-cons}
 use Rattle.rules.specs.Tests.{every, tally, among, isTaken, before}
-
-pub and-left : (a b : Bool) → (a && b) ≡ true → a ≡ true
-and-left true b h = refl
-and-left false b h = absurd (false≢true h)
-
-pub and-right : (a b : Bool) → (a && b) ≡ true → b ≡ true
-and-right true b h = h
-and-right false b h = absurd (false≢true h)
-
-pub both-true : {a b : Bool} → a ≡ true → b ≡ true → (a && b) ≡ true
-both-true p q = rw (p, q)
-
-pub or-other : (a b : Bool) → a ≡ false → (a || b) ≡ true → b ≡ true
-or-other true b h k = absurd (true≢false h)
-or-other false b h k = k
 
 -- ── every ──
 

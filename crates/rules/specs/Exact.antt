@@ -7,6 +7,8 @@ use native.Mathlib.Omega.{arith}
 use lib.ListN.{length, getD, take}
 use lib.Seq.{getD-take, length-take-le}
 use borrow.Author.Tests.{lt-ltb, le-ltb, le-leb, eq-eqb, ne-eqb, ltb-true, leb-true, eqb-true}
+use Rattle.definition.specs.Limits.{limits-of, limits-pass}
+use Rattle.definition.specs.Booleans.{and-left, and-right, both-true, by-eq, by-lt, or-other}
 use Rattle.slots.specs.Columns.{first-at}
 use Rattle.definition.specs.Words.{if_then_else_, _=?_, _<?_, _≤?_}
 use Rattle.definition.specs.Pool.{queueLength, inRange, slotCount}
@@ -17,28 +19,14 @@ use Rattle.slots.specs.View.{SlotPool, Slot, poolOf, Whole, waiterOf, idsIn, or
 use Rattle.slots.specs.View as View
 use Rattle.slots.specs.Needs.{taken}
 use Rattle.slots.specs.Parts.{slot-at}
-use Rattle.refinement.specs.Table.{by-eq, by-lt, Unique}
+use Rattle.refinement.specs.Table.{Unique}
 use Rattle.refinement.specs.Agree.{Class}
 use Rattle.refinement.specs.Mirror.{isPending, All, Distinct, Listed, Used, all-at}
-use Rattle.refinement.specs.Alike.{Limits, Rises}
+use Rattle.refinement.specs.Alike.{Rises}
 use Rattle.refinement.specs.Stands.{Formed}
-use Rattle.refinement.specs.Formed.{limits-of}
 use Rattle.refinement.specs.Rules.{Rules, isShelved, many, rules-formed, formed-rules}
 use Rattle.rules.specs.Tests.{every, tally, among, isTaken, blankPast, slotFits, before, waiterFits, idsBelow, newId, idsDistinct, slotsFit, howMany, countsRight, listedAt, orderRight, blankFrom, queueRises, keepsRules}
-use Rattle.rules.specs.Every.{and-left, and-right, both-true, or-other, every-all, all-every, not-among, new-among, all-of, distinct-of, distinct-has, past, tally-same, kinds, many-tally, taken-tally, rises-of, rises-at}
-
--- ── Options ────────────────────────────────────────────────────────────────────────────────────────────────────────────
-
-options-pass : (o : Options) → Limits o → inRange o ≡ true
-unfolding inRange
-options-pass o l =
-    both-true
-    (both-true
-    (both-true
-    (both-true (le-leb 1 (o .maximum) (l .one)) (le-leb (o .maximum) slotCount (l .maximum)))
-    (le-leb (o .minimum) (o .maximum) (l .minimum)))
-    (le-leb 1 (o .connecting) (l .connecting .0)))
-    (le-leb (o .connecting) slotCount (l .connecting .1))
+use Rattle.rules.specs.Every.{every-all, all-every, not-among, new-among, all-of, distinct-of, distinct-has, past, tally-same, kinds, many-tally, taken-tally, rises-of, rises-at}
 
 -- ── Ids ────────────────────────────────────────────────────────────────────────────────────────────────────────────────
 
@@ -384,7 +372,7 @@ module _ (h : Head) (cs ts ss ws : List ℕ) (w : Whole (poolOf h cs ts ss ws)) 
       let m = h .«waiting_count» in
       both-true
       (both-true
-      (both-true (options-pass (h .options) (r .limits)) (le-leb next (mostNextId) (r .numbers)))
+      (both-true (limits-pass (h .options) (r .limits)) (le-leb next (mostNextId) (r .numbers)))
       (both-true (below-pass cs (w .ids) next (r .below))
       (both-true (distinct-pass cs (w .ids) (r .unique)) (slots-pass h cs ts ss ws w (r .blank) (r .used)))))
       (both-true

@@ -5,6 +5,7 @@ use mathlib.Core.List.{[]}
 use Prim.Native.Nat.{ℕ, _+_, _*_, _<_}
 use borrow.Author.Tests.{ltb-true}
 use lib.ListN.{set}
+use Rattle.definition.specs.Booleans.{and-left, and-right}
 use Rattle.definition.specs.Words.{if_then_else_, _<?_}
 use Rattle.definition.specs.Pool.{isReady, isClosed}
 use Rattle.definition.specs.Records.{ConnectionCheckedIn, ConnectionReady, PoolReady, Replied, Cleared}
@@ -72,14 +73,9 @@ module _ (p : SlotPool) (n : ℕ) (warm : Bool) where
   request-closed h = rw h
 
 -- where nothing is available, a pool that can serve is below its maximum
-below : (r x y : Bool) → (r && (x && y)) ≡ true → x ≡ true
-below false x y h = absurd (false≢true h)
-below true true y h = refl
-below true false y h = h
-
 pub room-to-create : (p : SlotPool) → canService p ≡ true → p .availables ≡ 0 → p .total < p .options .maximum
 unfolding canServiceAt
 room-to-create p h z =
     let x = p .total <? p .options .maximum in
     let y = p .pendings <? p .options .connecting in
-    ltb-true _ _ (below (isReady (p .state)) x y (subst (λ (a : ℕ). (isReady (p .state) && (0 <? a || x && y)) ≡ true) z h))
+    ltb-true _ _ (and-left x y (and-right (isReady (p .state)) _ (subst (λ (a : ℕ). (isReady (p .state) && (0 <? a || x && y)) ≡ true) z h)))

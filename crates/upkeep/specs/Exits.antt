@@ -22,7 +22,6 @@ use Rattle.slots.specs.View.{SlotPool, Whole, withStatus}
 use Rattle.refinement.specs.Needs.{can-fill-after, can-tell-after}
 use Rattle.refinement.specs.RecordRoom.{pruned-few, closed-few}
 use Rattle.refinement.specs.Stands.{Stands}
-use Rattle.refinement.specs.Transit.{counted}
 use Rattle.upkeep.specs.Stood.{Said, interrupting}
 use Rattle.upkeep.specs.Laws.{interrupted-said, interrupting-few, cleared-ready, cleared-other, closed-serial, told-serial, pruned-serial, told-few}
 
@@ -54,9 +53,6 @@ module _ (p : SlotPool) {s n : ℕ} {l : List ℕ} {b : Bool} (e : b ≡ isReady
       (done-then (emit PoolReady) (enter Ready (p .generation)) p p _ (done-emit PoolReady p refl o) (done-quiet _ refl refl))
 
 -- ── A clear ────────────────────────────────────────────────────────────────────────────────────────────────────────────
-
-pub lent-counted : {p : SlotPool} {m : Pool} → Stands p m → p .availables + p .pendings ≤ p .total
-lent-counted st = omega (arith, counted (st .table), st .table .total, st .table .pendings)
 
 module _ (timeout : Bool) (lent : ℕ) {s : ℕ} {l : List ℕ} where
   pub interrupt-said : {x : ℕ} {k : List ℕ} → timeout ≡ true → x ≡ lent → k ≡ laid l (16 * 0) (recordBytes (serialOf (s + 0)) (fields 8 0 0 x))

@@ -1,8 +1,8 @@
 -- The cases of a clear, and what these steps leave alone.
-use mathlib.Core.Path.{_≡_, refl, ap, _∙_}
+use mathlib.Core.Path.{_≡_, refl}
 use mathlib.Core.Bool.{Bool, true, false}
 use mathlib.Core.List.{List}
-use Prim.Native.Nat.{ℕ, zero, suc, _+_, _≤_}
+use Prim.Native.Nat.{ℕ, _+_, _≤_}
 use native.Mathlib.Omega.{arith}
 use lib.ListN.{length, length-append, length-map, length-take}
 use Rattle.definition.specs.Words.{if_then_else_}
@@ -11,8 +11,8 @@ use Rattle.definition.specs.Records.{Reply, PoolCleared, Cleared}
 use Rattle.definition.specs.Steps.{emit, nothing, _>>_}
 use Rattle.slots.specs.View.{SlotPool}
 use Rattle.slots.specs.Done.{Done}
-use Rattle.slots.specs.Slots.{interrupted, clearedReady, tellAll, lents, closeFront, popFront, closeAt, removePerished, prune}
-use Rattle.refinement.specs.Leaves.{Leaves, prune-leaves}
+use Rattle.slots.specs.Slots.{interrupted, clearedReady, tellAll, lents, closeFront, removePerished}
+use Rattle.refinement.specs.Leaves.{serial-left, closeFront-leaves, tellAll-leaves, prune-leaves}
 use Rattle.upkeep.specs.Stood.{interrupting}
 
 -- ── A clear ────────────────────────────────────────────────────────────────────────────────────────────────────────────
@@ -39,24 +39,16 @@ module _ (timeout : Bool) (cause : ℕ) (p : SlotPool) where
 
 -- ── The serial, which an event moves at its end ────────────────────────────────────────────────────────────────────────
 
-closeFront-serial : (k : ℕ) (p : SlotPool) → closeFront k p .pool .serial ≡ p .serial
-unfolding closeFront popFront closeAt _>>_
-closeFront-serial zero p = refl
-closeFront-serial (suc k) p = closeFront-serial k _
-
 module _ (p q : SlotPool) where
   pub closed-serial : (k : ℕ) → q ≡ closeFront k p .pool → q .serial ≡ p .serial
-  closed-serial k e = ap (λ (x : SlotPool). x .serial) e ∙ closeFront-serial k p
+  closed-serial k e = serial-left p q e (closeFront-leaves k p)
 
   pub told-serial : (r : Reply) → q ≡ tellAll r p .pool → q .serial ≡ p .serial
-  unfolding tellAll _>>_
-  told-serial r e = ap (λ (x : SlotPool). x .serial) e
+  told-serial r e = serial-left p q e (tellAll-leaves r p)
 
   pub pruned-serial : q ≡ removePerished p .pool → q .serial ≡ p .serial
   unfolding removePerished
-  pruned-serial e =
-      let l : Leaves false 0 p (prune (p .availables) p) = prune-leaves (p .availables) p in
-      ap (λ (x : SlotPool). x .serial) e ∙ l .serial
+  pruned-serial e = serial-left p q e (prune-leaves (p .availables) p)
 
 -- one record for each waiter, at most
 pub told-few : (r : Reply) (p : SlotPool) {s n m : ℕ} {l k : List ℕ} {q : SlotPool} → Done (tellAll r p) s n l q m k → m ≤ n + p .waitings

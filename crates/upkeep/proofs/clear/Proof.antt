@@ -3,7 +3,8 @@ use native.Mathlib.Omega.{arith}
 use denote.Ref.{now}
 use Rattle.slots.specs.View.{SlotPool, poolOf}
 use Rattle.slots.specs.Slots.{lents}
-use Rattle.upkeep.specs.Exits.{lent-counted, interrupt-few, all-cleared}
+use Rattle.refinement.specs.Needs.{counts}
+use Rattle.upkeep.specs.Exits.{interrupt-few, all-cleared}
 use borrow.Author.Needs.{needs}
 use Rattle.upkeep.proofs.clear.Statement.{statement}
 use Rattle.upkeep.proofs.clear.Tie as tie
@@ -30,7 +31,7 @@ start d = d .before .before .before .before
 interrupt-requires : tie.Need-interrupt-requires
 interrupt-requires c κs =
     let r = c .before .before .before .pre in
-    (lent-counted (r .0 .stands), omega (arith, r .2))
+    (counts (r .0 .stands) .0, omega (arith, r .2))
 
 clear-ready-requires : tie.Need-clear-ready-requires
 clear-ready-requires c κs =

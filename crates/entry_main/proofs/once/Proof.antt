@@ -15,7 +15,7 @@ use prog.Wp.{Heap, Calls, Loops, WpFn, Tables}
 use ghost.Atoms.{Atoms, sem}
 use contract.Monad.{Fun, fact}
 use contract.Running.{givenOf, tables, tablesOf}
-use types.Kit.{Given, ‵, raw, ⋆, _⊛_, some, later, _$_, _∵_, !, qed, by, move, keep, use1, use2, use3, split, join, pick, rewrite, fsplit, fjoin, fpick, fpack, feqL, suffices, frame, await, done}
+use types.Kit.{Given, Item, ‵, raw, ⋆, _⊛_, some, later, _$_, _∵_, !, qed, by, move, keep, use1, use2, use3, split, join, pick, rewrite, fsplit, fjoin, fpick, fpack, feqL, suffices, frame, await, done}
 use types.Run.{look, init, forget, stop, hop, fld, from, load, addr, of-opd, and-then, no-more, assigns, land, returns, enter, alloc1, alloc0, params1, pass1, pass0, free1, free0}
 use types.Part.{agg, whole, sub, look-in}
 use types.SemTy.{Body}
@@ -106,6 +106,13 @@ module _ {M : Type 1} (𝓤 : URA M) (H : Heap 𝓤) (A : Atoms 𝓤) (W : Given
   abbrev OwnF : Fml
   OwnF = ShrSlice (named 0) κ₁ u8 .own f (fv ∷ [])
 
+  -- the two slices' tokens, and what the slices own
+  abbrev Tokens : Item 𝓤
+  Tokens = ‵ (flft κ₁ q₁) ⊛ ‵ (flft κ₂ q₂) ⊛ ‵ ftrue
+
+  abbrev Slices : Fml
+  Slices = owns (ShrSlice (named 0) κ₁ u8 ∷ MutSlice (named 1) κ₂ u8 ∷ []) (f, (y, tt)) (fv ∷ [], (yv ∷ [], tt))
+
   -- what the contract of `event` says of the last pool p, the answer a and the last list zs
   abbrev Said : Pool → Outcome → List ℕ → Type 0
   Said p a zs = left p zs a ≡ entry h (f .now) (y .now)
@@ -120,9 +127,9 @@ module _ {M : Type 1} (𝓤 : URA M) (H : Heap 𝓤) (A : Atoms 𝓤) (W : Given
   Post = walkOf 𝓤 H A once.ended stayed (once.clauses 𝓤 H A at-mem run) .post (((κ₁, (κ₂, tt)), (q₁, (q₂, tt)), tt, x, at), tt)
 
   exits : Is T.the-row h (val h ∷ []) → (p : Pool) (a : Outcome) (zs : List ℕ) → Is S.the-row (both p a) (res p a ∷ []) → Said p a zs → length zs ≡ length (y .now)
-      → ent 𝓤 (⋆ 𝓤 H A ((‵ (flft κ₁ q₁) ⊛ ‵ (flft κ₂ q₂) ⊛ ‵ ftrue) ∷ ‵ (finally u8 (y .name) zs) ∷ ‵ OwnF ∷ [])) (Post (res p a))
+      → ent 𝓤 (⋆ 𝓤 H A (Tokens ∷ ‵ (finally u8 (y .name) zs) ∷ ‵ OwnF ∷ [])) (Post (res p a))
   exits was p a zs is-r e l =
-      qed W ((‵ (flft κ₁ q₁) ⊛ ‵ (flft κ₂ q₂) ⊛ ‵ ftrue) ∷ ‵ (finally u8 (y .name) zs) ∷ ‵ OwnF ∷ []) ∵
+      qed W (Tokens ∷ ‵ (finally u8 (y .name) zs) ∷ ‵ OwnF ∷ []) ∵
       suffices ! _ (ends-at 𝓤 H A once.ended stayed (once.clauses 𝓤 H A at-mem run) W (((κ₁, (κ₂, tt)), (q₁, (q₂, tt)), tt, x, at), tt) (res p a) (both p a) (tt, (tt, (zs, tt))) (tt, (tt, (l, tt)))) $
       says ! e $ frame ! $
       nothing ! $ move ! (1 ∷ 0 ∷ []) $ fjoin ! $ move ! (1 ∷ 0 ∷ []) $ fjoin ! $ owned ! T.the-row (Is T.the-row) (LL.makes T.the-type T′.the-plain 𝓤 H A) h _ was $ fjoin ! $ frame ! $
@@ -135,32 +142,47 @@ module _ {M : Type 1} (𝓤 : URA M) (H : Heap 𝓤) (A : Atoms 𝓤) (W : Given
   abbrev to : ℕ → ℕ → GName → Event 𝓤 H A at-mem run .Ghost
   to ν l δ = (((ν ∷ [], (κ₁, (κ₂, tt))), (fullShare, (q₁, (q₂, tt))), tt, passed l δ, (vptr l 0 ∷ [], (fv ∷ [], (yv ∷ [], tt)))), tt)
 
-  asks : (ν l : ℕ) (δ : GName) → ent 𝓤 (sep 𝓤 (sep 𝓤 (A .lft (ν ∷ []) fullShare) (sep 𝓤 (A .lft κ₁ q₁) (sep 𝓤 (A .lft κ₂ q₂) (sem 𝓤 H A ftrue)))) (sem 𝓤 H A (owns (MutRef (named 0) (ν ∷ []) T.the-row ∷ ShrSlice (named 1) κ₁ u8 ∷ MutSlice (named 2) κ₂ u8 ∷ []) (passed l δ) (vptr l 0 ∷ [], (fv ∷ [], (yv ∷ [], tt)))))) (Event 𝓤 H A at-mem run .pre (to ν l δ))
-  asks ν l δ = qed W ((‵ (flft (ν ∷ []) fullShare) ⊛ ‵ (flft κ₁ q₁) ⊛ ‵ (flft κ₂ q₂) ⊛ ‵ ftrue) ∷ ‵ (owns (MutRef (named 0) (ν ∷ []) T.the-row ∷ ShrSlice (named 1) κ₁ u8 ∷ MutSlice (named 2) κ₂ u8 ∷ []) (passed l δ) (vptr l 0 ∷ [], (fv ∷ [], (yv ∷ [], tt)))) ∷ []) ∵ join ! $ frame ! $ done !
+  -- the pool's token with the slices', and what all three own
+  abbrev AllTokens : ℕ → Item 𝓤
+  AllTokens ν = ‵ (flft (ν ∷ []) fullShare) ⊛ Tokens
+
+  abbrev Passed : ℕ → ℕ → GName → Fml
+  Passed ν l δ =
+      owns (MutRef (named 0) (ν ∷ []) T.the-row ∷ ShrSlice (named 1) κ₁ u8 ∷ MutSlice (named 2) κ₂ u8 ∷ [])
+      (passed l δ) (vptr l 0 ∷ [], (fv ∷ [], (yv ∷ [], tt)))
+
+  asks : (ν l : ℕ) (δ : GName) → ent 𝓤 (⋆ 𝓤 H A (AllTokens ν ∷ ‵ (Passed ν l δ) ∷ [])) (Event 𝓤 H A at-mem run .pre (to ν l δ))
+  asks ν l δ = qed W (AllTokens ν ∷ ‵ (Passed ν l δ) ∷ []) ∵ join ! $ frame ! $ done !
 
   abbrev ref : ℕ → ℕ → GName → Fml
   ref ν l δ = MutRef (named 0) (ν ∷ []) T.the-row .own (record { ptr = (l, 0); name = δ; now = h }) (vptr l 0 ∷ [])
 
-  apart : (ν l : ℕ) (δ : GName) → ent 𝓤 (⋆ 𝓤 H A (‵ (ref ν l δ) ∷ ‵ (owns (ShrSlice (named 0) κ₁ u8 ∷ MutSlice (named 1) κ₂ u8 ∷ []) (f, (y, tt)) (fv ∷ [], (yv ∷ [], tt))) ∷ (‵ (flft (ν ∷ []) fullShare) ⊛ ‵ (flft κ₁ q₁) ⊛ ‵ (flft κ₂ q₂) ⊛ ‵ ftrue) ∷ []))
+  apart : (ν l : ℕ) (δ : GName) → ent 𝓤 (⋆ 𝓤 H A (‵ (ref ν l δ) ∷ ‵ Slices ∷ AllTokens ν ∷ []))
       (sep 𝓤 (Event 𝓤 H A at-mem run .pre (to ν l δ)) (sem 𝓤 H A OwnF))
   apart ν l δ =
-      qed W (‵ (ref ν l δ) ∷ ‵ (owns (ShrSlice (named 0) κ₁ u8 ∷ MutSlice (named 1) κ₂ u8 ∷ []) (f, (y, tt)) (fv ∷ [], (yv ∷ [], tt))) ∷ (‵ (flft (ν ∷ []) fullShare) ⊛ ‵ (flft κ₁ q₁) ⊛ ‵ (flft κ₂ q₂) ⊛ ‵ ftrue) ∷ []) ∵
+      qed W (‵ (ref ν l δ) ∷ ‵ Slices ∷ AllTokens ν ∷ []) ∵
       move ! (1 ∷ []) $ fsplit ! $ use1 W (‵ OwnF ⊛ ‵ OwnF) (shr-slice-copy 𝓤 H A W (named 0) κ₁ u8 .twice f (fv ∷ [])) $ split ! $
-      move ! (0 ∷ 2 ∷ []) $ fjoin ! $ move ! (2 ∷ 0 ∷ []) $ fjoin ! $ move ! (2 ∷ 0 ∷ []) $ use2 W (raw (Event 𝓤 H A at-mem run .pre (to ν l δ))) (asks ν l δ) $ frame ! $ done !
+      move ! (0 ∷ 2 ∷ []) $ fjoin ! $ move ! (2 ∷ 0 ∷ []) $ fjoin ! $
+      move ! (2 ∷ 0 ∷ []) $ use2 W (raw (Event 𝓤 H A at-mem run .pre (to ν l δ))) (asks ν l δ) $ frame ! $ done !
 
   module _ (C : Calls 𝓤 H) (Λ : Loops 𝓤 H) (fm : FmC 𝓤 H (W .laws) C) (known : Triple 𝓤 (C #event) (Event 𝓤 H A at-mem run)) where
-    walk : Is T.the-row h (val h ∷ []) → Is (ShrSlice (named 0) κ₁ u8) f (fv ∷ []) → Is (MutSlice (named 1) κ₂ u8) y (yv ∷ []) → ent 𝓤 (onEntry 𝓤 H A once.signature (κ₁, (κ₂, tt)) (q₁, (q₂, tt)) x at) (WpFn 𝓤 H C Λ code.function (val h ∷ fv ∷ yv ∷ []) Post)
+    walk : Is T.the-row h (val h ∷ []) → Is (ShrSlice (named 0) κ₁ u8) f (fv ∷ []) → Is (MutSlice (named 1) κ₂ u8) y (yv ∷ [])
+        → ent 𝓤 (onEntry 𝓤 H A once.signature (κ₁, (κ₂, tt)) (q₁, (q₂, tt)) x at) (WpFn 𝓤 H C Λ code.function (val h ∷ fv ∷ yv ∷ []) Post)
     walk was is-f is-y =
-        qed W ((‵ (flft κ₁ q₁) ⊛ ‵ (flft κ₂ q₂) ⊛ ‵ ftrue) ∷ ‵ (owns (T.the-row ∷ ShrSlice (named 0) κ₁ u8 ∷ MutSlice (named 1) κ₂ u8 ∷ []) x at) ∷ []) ∵
+        qed W (Tokens ∷ ‵ (owns (T.the-row ∷ ShrSlice (named 0) κ₁ u8 ∷ MutSlice (named 1) κ₂ u8 ∷ []) x at) ∷ []) ∵
         enter ! C Λ code.function (val h ∷ fv ∷ yv ∷ []) _ $
         alloc1 ! (λ l₀. alloc1 ! (λ l₁. alloc1 ! (λ l₂. alloc1 ! (λ l₃. alloc1 ! (λ l₄. alloc1 ! (λ l₅. alloc1 ! (λ l₆. alloc1 ! (λ l₇. alloc1 ! (λ l₈. alloc1 ! (λ l₉. alloc0 ! $ params1 ! $
-        pass1 ! (init ! 16 refl (LL.lawful T.the-type T′.the-laws 𝓤 H A W .typed h _ was .0)) $ pass1 ! (init ! 14 refl (shr-slice-lawful 𝓤 H A W (named 0) κ₁ u8 .typed f _ is-f .0)) $ pass1 ! (init ! 12 refl (mut-slice-lawful 𝓤 H A W (named 1) κ₂ u8 .typed y _ is-y .0)) $ pass0 ! $
+        pass1 ! (init ! 16 refl (LL.lawful T.the-type T′.the-laws 𝓤 H A W .typed h _ was .0)) $
+        pass1 ! (init ! 14 refl (shr-slice-lawful 𝓤 H A W (named 0) κ₁ u8 .typed f _ is-f .0)) $
+        pass1 ! (init ! 12 refl (mut-slice-lawful 𝓤 H A W (named 1) κ₂ u8 .typed y _ is-y .0)) $ pass0 ! $
         -- [_9 (0); _8 (2); _7 (4); _6 (6); _5 (8); _4 (10); _3 (12); _2 (14); _1 (16); _0 (18); the tokens (20); what the parameters own (21)]
         -- _4 = _1;  _6 = &mut _4;  _7 = &mut *_3.0;  _8 = (_7, _3.1)
         assigns ! (of-opd ! (load ! (from ! (stop !)) (look ! 16 refl))) (from ! (stop !)) (init ! 10 refl (LL.lawful T.the-type T′.the-laws 𝓤 H A W .typed h _ was .0)) $
         assigns ! (addr ! (from ! (stop !))) (from ! (stop !)) (init ! 6 refl (tt, tt)) $
         assigns ! (addr ! (from ! (fld ! refl (hop ! (look-in ! 12 (sub ! 0 refl (whole !))) (stop !))))) (from ! (stop !)) (init ! 4 refl (tt, tt)) $
-        assigns ! (agg ! (and-then ! (load ! (from ! (stop !)) (look ! 4 refl)) (and-then ! (load ! (from ! (fld ! refl (stop !))) (look-in ! 12 (sub ! 1 refl (whole !)))) (no-more !)))) (from ! (stop !)) (init ! 2 refl (tt, (tt, (record { fits = is-y .0 .1 .0 }, tt)))) $
+        assigns ! (agg ! (and-then ! (load ! (from ! (stop !)) (look ! 4 refl))
+        (and-then ! (load ! (from ! (fld ! refl (stop !))) (look-in ! 12 (sub ! 1 refl (whole !)))) (no-more !))))
+        (from ! (stop !)) (init ! 2 refl (tt, (tt, (record { fits = is-y .0 .1 .0 }, tt)))) $
         -- the local is lent for a new lifetime
         move ! (21 ∷ []) $ fsplit ! $ move ! (12 ∷ 0 ∷ []) $ use2 W (‵ (partAt T.the-row fullShare h l₄ 0)) (lies-in 𝓤 H A W h l₄) $
         lft-new ! tt (λ ν. move ! (1 ∷ []) $
@@ -168,10 +190,16 @@ module _ {M : Type 1} (𝓤 : URA M) (H : Heap 𝓤) (A : Atoms 𝓤) (W : Given
         -- [the reference; the lender's part; the new token; the slices; _9 (4); _8 (6); _7 (8); _6 (10); _5 (12); what frees _4 (14); _3 (15); _2 (17); _1 (19); _0 (21); the tokens (23)]
         move ! (2 ∷ 23 ∷ []) $ join ! $ move ! (1 ∷ 3 ∷ 0 ∷ []) $ use3 W (raw (Event 𝓤 H A at-mem run .pre (to ν l₄ δ)) ⊛ ‵ OwnF) (apart ν l₄ δ) $ split ! $
         -- [what `event` asks; the frame; the lender's part; _9 (3); _8 (5); _7 (7); _6 (9); _5 (11); what frees _4 (13); _3 (14); _2 (16); _1 (18); _0 (20)]
-        calls-at ! fm (Event 𝓤 H A at-mem run) known (to ν l₄ δ) (and-then ! (load ! (from ! (stop !)) (look ! 9 refl)) (and-then ! (load ! (from ! (stop !)) (look ! 16 refl)) (and-then ! (load ! (from ! (stop !)) (look ! 5 refl)) (no-more !)))) (λ v.
-        use1 W (later (some (λ (a : Outcome). ((‵ (flft (ν ∷ []) fullShare) ⊛ ‵ (flft κ₁ q₁) ⊛ ‵ (flft κ₂ q₂) ⊛ ‵ ftrue) ⊛ ‵ (N.the-row .own a (v ∷ []))) ⊛ raw (ensured 𝓤 H A event.ended (event.clauses 𝓤 H A at-mem run) (ν ∷ [], (κ₁, (κ₂, tt))) (passed l₄ δ) tt a)))) (id⊢ 𝓤 _) $ await ! tt $ pick ! (λ a.
-        split ! $ move ! (1 ∷ []) $ use1 W (some (λ (zs : Pool × (Unit {0} × (List ℕ × Unit {0}))). ‵ (lasts event.ended (ν ∷ [], (κ₁, (κ₂, tt))) (passed l₄ δ) zs) ⊛ raw (fact 𝓤 (Said (zs .0) a (zs .1 .1 .0))))) (id⊢ 𝓤 _) $ pick ! (λ zs.
-        split ! $ move ! (1 ∷ []) $ heard ! (Said (zs .0) a (zs .1 .1 .0)) (λ e. fsplit ! $ move ! (1 ∷ []) $ fsplit ! $ move ! (1 ∷ []) $ fsplit ! $ fsplit ! $ move ! (1 ∷ []) $ feqL ! (λ l.
+        calls-at ! fm (Event 𝓤 H A at-mem run) known (to ν l₄ δ)
+        (and-then ! (load ! (from ! (stop !)) (look ! 9 refl)) (and-then ! (load ! (from ! (stop !)) (look ! 16 refl))
+        (and-then ! (load ! (from ! (stop !)) (look ! 5 refl)) (no-more !)))) (λ v.
+        use1 W (later (some (λ (a : Outcome).
+        (AllTokens ν ⊛ ‵ (N.the-row .own a (v ∷ []))) ⊛ raw (ensured 𝓤 H A event.ended (event.clauses 𝓤 H A at-mem run) (ν ∷ [], (κ₁, (κ₂, tt))) (passed l₄ δ) tt a))))
+        (id⊢ 𝓤 _) $ await ! tt $ pick ! (λ a.
+        split ! $ move ! (1 ∷ []) $ use1 W (some (λ (zs : Pool × (Unit {0} × (List ℕ × Unit {0}))).
+        ‵ (lasts event.ended (ν ∷ [], (κ₁, (κ₂, tt))) (passed l₄ δ) zs) ⊛ raw (fact 𝓤 (Said (zs .0) a (zs .1 .1 .0))))) (id⊢ 𝓤 _) $ pick ! (λ zs.
+        split ! $ move ! (1 ∷ []) $ heard ! (Said (zs .0) a (zs .1 .1 .0)) (λ e.
+        fsplit ! $ move ! (1 ∷ []) $ fsplit ! $ move ! (1 ∷ []) $ fsplit ! $ fsplit ! $ move ! (1 ∷ []) $ feqL ! (λ l.
         -- [the last list; true; true; the last pool; the tokens and the result; the frame; the lender's part; …]
         move ! (4 ∷ []) $ split ! $ move ! (1 ∷ []) $
         -- [what the answer owns; the tokens; the last list; true; true; the last pool (5); the frame (6); the lender's part (7); _9 (8); _8 (10); _7 (12); _6 (14); _5 (16); what frees _4 (18); _3 (19); _2 (21); _1 (23); _0 (25)]
@@ -187,8 +215,10 @@ module _ {M : Type 1} (𝓤 : URA M) (H : Heap 𝓤) (A : Atoms 𝓤) (W : Given
         assigns ! (of-opd ! (load ! (from ! (stop !)) (look ! 0 refl))) (from ! (stop !)) (init ! 8 refl (LL.lawful T.the-type T′.the-laws 𝓤 H A W .typed (zs .0) _ is-p .0)) $
         (let is-a : Is N.the-row a (ans a ∷ []) = EL.owes N.the-type N′.the-laws a (EL.owed N.the-type N′.the-laws a _ is) in
         let is-r : Is S.the-row (both (zs .0) a) (res (zs .0) a ∷ []) = LL.owes S.the-type S′.the-laws (both (zs .0) a) (is-p, (is-a, tt)) in
-        assigns ! (agg ! (and-then ! (load ! (from ! (stop !)) (look ! 8 refl)) (and-then ! (load ! (from ! (stop !)) (look ! 16 refl)) (no-more !)))) (from ! (stop !)) (init ! 25 refl (LL.lawful S.the-type S′.the-laws 𝓤 H A W .typed (both (zs .0) a) _ is-r .0)) $
-        returns ! (look ! 25 refl) $ forget ! 0 refl $ forget ! 8 refl $ forget ! 10 refl $ forget ! 12 refl $ forget ! 14 refl $ forget ! 16 refl $ forget ! 19 refl $ forget ! 21 refl $ forget ! 23 refl $ forget ! 25 refl $
+        assigns ! (agg ! (and-then ! (load ! (from ! (stop !)) (look ! 8 refl)) (and-then ! (load ! (from ! (stop !)) (look ! 16 refl)) (no-more !))))
+        (from ! (stop !)) (init ! 25 refl (LL.lawful S.the-type S′.the-laws 𝓤 H A W .typed (both (zs .0) a) _ is-r .0)) $
+        returns ! (look ! 25 refl) $ forget ! 0 refl $ forget ! 8 refl $ forget ! 10 refl $ forget ! 12 refl $ forget ! 14 refl $
+        forget ! 16 refl $ forget ! 19 refl $ forget ! 21 refl $ forget ! 23 refl $ forget ! 25 refl $
         move ! (25 ∷ 26 ∷ []) $ free1 ! $ move ! (23 ∷ 24 ∷ []) $ free1 ! $ move ! (21 ∷ 22 ∷ []) $ free1 ! $ move ! (19 ∷ 20 ∷ []) $ free1 ! $ move ! (0 ∷ 18 ∷ []) $ free1 ! $
         move ! (15 ∷ 16 ∷ []) $ free1 ! $ move ! (13 ∷ 14 ∷ []) $ free1 ! $ move ! (11 ∷ 12 ∷ []) $ free1 ! $ move ! (9 ∷ 10 ∷ []) $ free1 ! $ move ! (7 ∷ 8 ∷ []) $ free1 ! $ free0 ! $
         keep ! (1 ∷ 3 ∷ 6 ∷ []) $ by ! (exits was (zs .0) a (zs .1 .1 .0) is-r e l)))))))))))))))))))))

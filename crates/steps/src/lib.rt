@@ -39,14 +39,14 @@ pub fn request(
     let st = m.state;
     match st {
         PoolState::New => {
-            table::emit(out, n, h.serial, 19, 0, words::as_u64(id), 0);
+            records::emit(out, n, h.serial, 19, 0, words::as_u64(id), 0);
             Progress {
                 head: h,
                 count: n + 1,
             }
         }
         PoolState::Paused(cause) => {
-            table::emit(out, n, h.serial, 19, 0, words::as_u64(id), cause);
+            records::emit(out, n, h.serial, 19, 0, words::as_u64(id), cause);
             Progress {
                 head: h,
                 count: n + 1,
@@ -114,7 +114,7 @@ pub fn check_in(
     if conditions::is_closed(st) {
         return acts::close_connection(head, numbers, times, states, waiters, out, n, i, 5, 0);
     }
-    table::emit(out, n, head.serial, 3, 0, words::as_u64(numbers[i]), 0);
+    records::emit(out, n, head.serial, 3, 0, words::as_u64(numbers[i]), 0);
     if errored {
         return acts::close_connection(head, numbers, times, states, waiters, out, n + 1, i, 3, 0);
     }
@@ -145,7 +145,7 @@ pub fn handle_connection_succeeded(
     requires { ⌜ Whole (given head numbers times states waiters) × CanLeave (given head numbers times states waiters) i × Room 1 n (now out) ⌝ }
     ensures { λ r. ⌜ Done (succeededAt i (before head numbers times states waiters)) (head .serial) n (now (out .entry)) (after (r .head) numbers times states waiters) (r .count) (now (out .exit)) ⌝ }
 {
-    table::emit(out, n, head.serial, 2, 0, words::as_u64(numbers[i]), 0);
+    records::emit(out, n, head.serial, 2, 0, words::as_u64(numbers[i]), 0);
     let mut h = head;
     h.pending_connection_count = h.pending_connection_count - 1;
     acts::set_state(h, numbers, times, states, waiters, i, 2);
@@ -170,7 +170,7 @@ pub fn handle_connection_succeeded_for_pool(
     requires { ⌜ Whole (given head numbers times states waiters) × CanLeave (given head numbers times states waiters) i × Room 2 n (now out) ⌝ }
     ensures { λ r. ⌜ Done (succeededForPoolAt i opened (before head numbers times states waiters)) (head .serial) n (now (out .entry)) (after (r .head) numbers times states waiters) (r .count) (now (out .exit)) ⌝ }
 {
-    table::emit(out, n, head.serial, 2, 0, words::as_u64(numbers[i]), 0);
+    records::emit(out, n, head.serial, 2, 0, words::as_u64(numbers[i]), 0);
     let mut h = head;
     h.pending_connection_count = h.pending_connection_count - 1;
     let m = h.status;

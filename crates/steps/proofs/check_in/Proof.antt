@@ -15,7 +15,7 @@ use Rattle.steps.proofs.check_in.Lts as lts
 use Rattle.conditions.proofs.is_closed.Reads as is-closed-reads
 use Rattle.conditions.proofs.is_stale.Reads as is-stale-reads
 use Rattle.words.proofs.as_u64.Reads as as-u64-reads
-use Rattle.table.proofs.emit.Reads as emit-reads
+use Rattle.records.proofs.emit.Reads as emit-reads
 use Rattle.acts.proofs.close_connection.Reads as close-connection-reads
 use Rattle.acts.proofs.shelve.Reads as shelve-reads
 

@@ -12,7 +12,7 @@ use Rattle.steps.proofs.handle_connection_succeeded.Reads as reads
 use Rattle.steps.proofs.handle_connection_succeeded.Lts as lts
 use Rattle.words.proofs.as_u64.Reads as as-u64-reads
 use Rattle.acts.proofs.set_state.Reads as set-state-reads
-use Rattle.table.proofs.emit.Reads as emit-reads
+use Rattle.records.proofs.emit.Reads as emit-reads
 
 -- the pool that the step is lent
 abbrev lent : tie.Start → SlotPool

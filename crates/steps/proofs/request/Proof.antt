@@ -9,7 +9,7 @@ use Rattle.steps.proofs.request.Reads as reads
 use Rattle.steps.proofs.request.Lts as lts
 use Rattle.words.proofs.as_u64.Reads as as-u64-reads
 use Rattle.steps.proofs.mark.Reads as mark-reads
-use Rattle.table.proofs.emit.Reads as emit-reads
+use Rattle.records.proofs.emit.Reads as emit-reads
 
 -- the pool that the step is lent
 abbrev lent : tie.Start → SlotPool

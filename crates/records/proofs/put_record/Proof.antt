@@ -1,10 +1,10 @@
 use native.Mathlib.Omega.{arith}
 use lib.ListN.{length-set}
 use denote.Ref.{now}
-use Rattle.table.proofs.Laws.{record-laid}
+use Rattle.records.proofs.Laws.{record-laid}
 use borrow.Author.Needs.{needs}
-use Rattle.table.proofs.put_record.Statement.{statement}
-use Rattle.table.proofs.put_record.Tie as tie
+use Rattle.records.proofs.put_record.Statement.{statement}
+use Rattle.records.proofs.put_record.Tie as tie
 
 sub-put-u32 : tie.Need-sub-put-u32
 sub-put-u32 c = search needs

@@ -2,10 +2,10 @@ use Prim.Native.Nat.{_*_}
 use denote.Ref.{now}
 use Rattle.definition.specs.Records.{fields}
 use Rattle.definition.specs.Bytes.{recordBytes}
-use Rattle.table.proofs.Laws.{tail-laid}
+use Rattle.records.proofs.Laws.{tail-laid}
 use borrow.Author.Needs.{needs}
-use Rattle.table.proofs.emit.Statement.{statement}
-use Rattle.table.proofs.emit.Tie as tie
+use Rattle.records.proofs.emit.Statement.{statement}
+use Rattle.records.proofs.emit.Tie as tie
 
 mul-off : tie.Need-mul-off
 mul-off c = search needs

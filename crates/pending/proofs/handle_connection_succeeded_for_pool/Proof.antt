@@ -5,12 +5,12 @@ use Rattle.definition.specs.Words.{if_then_else_}
 use Rattle.slots.specs.View.{SlotPool, poolOf}
 use Rattle.slots.specs.Parts.{id-at}
 use Rattle.slots.specs.Slots.{leavePending}
-use Rattle.steps.specs.Exits.{ready-shut, ready-kept}
+use Rattle.pending.specs.Exits.{ready-shut, ready-kept}
 use borrow.Author.Needs.{needs}
-use Rattle.steps.proofs.handle_connection_succeeded_for_pool.Statement.{statement}
-use Rattle.steps.proofs.handle_connection_succeeded_for_pool.Tie as tie
-use Rattle.steps.proofs.handle_connection_succeeded_for_pool.Reads as reads
-use Rattle.steps.proofs.handle_connection_succeeded_for_pool.Lts as lts
+use Rattle.pending.proofs.handle_connection_succeeded_for_pool.Statement.{statement}
+use Rattle.pending.proofs.handle_connection_succeeded_for_pool.Tie as tie
+use Rattle.pending.proofs.handle_connection_succeeded_for_pool.Reads as reads
+use Rattle.pending.proofs.handle_connection_succeeded_for_pool.Lts as lts
 use Rattle.acts.proofs.close_connection.Reads as close-connection-reads
 use Rattle.conditions.proofs.is_closed.Reads as is-closed-reads
 use Rattle.words.proofs.as_u64.Reads as as-u64-reads

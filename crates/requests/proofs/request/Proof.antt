@@ -1,14 +1,14 @@
 use mathlib.Core.Path.{refl}
 use denote.Ref.{now}
 use Rattle.slots.specs.View.{SlotPool, poolOf}
-use Rattle.steps.specs.Exits.{asked-new, asked-paused, asked-ready, asked-closed}
+use Rattle.requests.specs.Exits.{asked-new, asked-paused, asked-ready, asked-closed}
 use borrow.Author.Needs.{needs}
-use Rattle.steps.proofs.request.Statement.{statement}
-use Rattle.steps.proofs.request.Tie as tie
-use Rattle.steps.proofs.request.Reads as reads
-use Rattle.steps.proofs.request.Lts as lts
+use Rattle.requests.proofs.request.Statement.{statement}
+use Rattle.requests.proofs.request.Tie as tie
+use Rattle.requests.proofs.request.Reads as reads
+use Rattle.requests.proofs.request.Lts as lts
 use Rattle.words.proofs.as_u64.Reads as as-u64-reads
-use Rattle.steps.proofs.mark.Reads as mark-reads
+use Rattle.requests.proofs.mark.Reads as mark-reads
 use Rattle.records.proofs.emit.Reads as emit-reads
 
 -- the pool that the step is lent

@@ -2,10 +2,10 @@ use mathlib.Core.Path.{_≡_, refl}
 use Rattle.definition.specs.Words.{if_then_else_}
 use native.Mathlib.Omega.{arith}
 use borrow.Author.Needs.{needs}
-use Rattle.steps.proofs.mark.Statement.{statement}
-use Rattle.steps.proofs.mark.Tie as tie
-use Rattle.steps.proofs.mark.Reads as reads
-use Rattle.steps.proofs.mark.Lts as lts
+use Rattle.requests.proofs.mark.Statement.{statement}
+use Rattle.requests.proofs.mark.Tie as tie
+use Rattle.requests.proofs.mark.Reads as reads
+use Rattle.requests.proofs.mark.Lts as lts
 
 returns : tie.Need-returns
 unfolding if_then_else_

@@ -3,12 +3,12 @@ use denote.Ref.{now}
 use Rattle.definition.specs.Words.{if_then_else_}
 use Rattle.slots.specs.View.{SlotPool, poolOf}
 use Rattle.slots.specs.Slots.{leavePending}
-use Rattle.steps.specs.Exits.{failed-closed}
+use Rattle.pending.specs.Exits.{failed-closed}
 use borrow.Author.Needs.{needs}
-use Rattle.steps.proofs.handle_connection_failed.Statement.{statement}
-use Rattle.steps.proofs.handle_connection_failed.Tie as tie
-use Rattle.steps.proofs.handle_connection_failed.Reads as reads
-use Rattle.steps.proofs.handle_connection_failed.Lts as lts
+use Rattle.pending.proofs.handle_connection_failed.Statement.{statement}
+use Rattle.pending.proofs.handle_connection_failed.Tie as tie
+use Rattle.pending.proofs.handle_connection_failed.Reads as reads
+use Rattle.pending.proofs.handle_connection_failed.Lts as lts
 use Rattle.acts.proofs.close_connection.Reads as close-connection-reads
 
 -- the pool that the step is lent

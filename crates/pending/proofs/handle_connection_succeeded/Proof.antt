@@ -4,12 +4,12 @@ use denote.Ref.{now}
 use Rattle.slots.specs.View.{SlotPool, poolOf, withCounts}
 use Rattle.slots.specs.Parts.{id-at}
 use Rattle.slots.specs.Slots.{leavePending}
-use Rattle.steps.specs.Exits.{ready-lent}
+use Rattle.pending.specs.Exits.{ready-lent}
 use borrow.Author.Needs.{needs}
-use Rattle.steps.proofs.handle_connection_succeeded.Statement.{statement}
-use Rattle.steps.proofs.handle_connection_succeeded.Tie as tie
-use Rattle.steps.proofs.handle_connection_succeeded.Reads as reads
-use Rattle.steps.proofs.handle_connection_succeeded.Lts as lts
+use Rattle.pending.proofs.handle_connection_succeeded.Statement.{statement}
+use Rattle.pending.proofs.handle_connection_succeeded.Tie as tie
+use Rattle.pending.proofs.handle_connection_succeeded.Reads as reads
+use Rattle.pending.proofs.handle_connection_succeeded.Lts as lts
 use Rattle.words.proofs.as_u64.Reads as as-u64-reads
 use Rattle.acts.proofs.set_state.Reads as set-state-reads
 use Rattle.records.proofs.emit.Reads as emit-reads

@@ -5,11 +5,11 @@ use lib.ListN.{set}
 use Rattle.slots.specs.View.{poolOf, withWaiters}
 use Rattle.slots.specs.Slots.{abandonAt}
 use borrow.Author.Needs.{needs}
-use Rattle.steps.proofs.abandon.Statement.{statement}
-use Rattle.steps.proofs.abandon.Tie as tie
-use Rattle.steps.proofs.abandon.Reads as reads
-use Rattle.steps.proofs.abandon.Lts as lts
-use Rattle.steps.proofs.abandoned.Reads as abandoned-reads
+use Rattle.requests.proofs.abandon.Statement.{statement}
+use Rattle.requests.proofs.abandon.Tie as tie
+use Rattle.requests.proofs.abandon.Reads as reads
+use Rattle.requests.proofs.abandon.Lts as lts
+use Rattle.requests.proofs.abandoned.Reads as abandoned-reads
 
 mul-abandoned : tie.Need-mul-abandoned
 mul-abandoned c = search needs

@@ -6,12 +6,12 @@ use Rattle.definition.specs.Words.{if_then_else_}
 use Rattle.definition.specs.Pool.{staleIn}
 use Rattle.slots.specs.View.{SlotPool, poolOf, slotAt}
 use Rattle.slots.specs.Parts.{id-at, generation-at}
-use Rattle.steps.specs.Exits.{CheckedIn, checked-in, tested, in-closed, in-errored, in-stale, in-executing, in-kept}
+use Rattle.check_in.specs.Exits.{CheckedIn, checked-in, tested, in-closed, in-errored, in-stale, in-executing, in-kept}
 use borrow.Author.Needs.{needs}
-use Rattle.steps.proofs.check_in.Statement.{statement}
-use Rattle.steps.proofs.check_in.Tie as tie
-use Rattle.steps.proofs.check_in.Reads as reads
-use Rattle.steps.proofs.check_in.Lts as lts
+use Rattle.check_in.proofs.check_in.Statement.{statement}
+use Rattle.check_in.proofs.check_in.Tie as tie
+use Rattle.check_in.proofs.check_in.Reads as reads
+use Rattle.check_in.proofs.check_in.Lts as lts
 use Rattle.conditions.proofs.is_closed.Reads as is-closed-reads
 use Rattle.conditions.proofs.is_stale.Reads as is-stale-reads
 use Rattle.words.proofs.as_u64.Reads as as-u64-reads

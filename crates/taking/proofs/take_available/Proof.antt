@@ -2,10 +2,10 @@ use native.Mathlib.Omega.{arith}
 use denote.Ref.{now}
 use Rattle.slots.specs.View.{SlotPool, poolOf, waiterOf}
 use Rattle.slots.specs.Slots.{takeFrom}
-use Rattle.checkout.specs.Taking.{Taking, take-start, take-looks, take-pops, take-lends, taken-lent, take-closes, take-turns, take-creates, taken-none}
+use Rattle.taking.specs.Taking.{Taking, take-start, take-looks, take-pops, take-lends, taken-lent, take-closes, take-turns, take-creates, taken-none}
 use borrow.Author.Needs.{needs}
-use Rattle.checkout.proofs.take_available.Statement.{statement}
-use Rattle.checkout.proofs.take_available.Tie as tie
+use Rattle.taking.proofs.take_available.Statement.{statement}
+use Rattle.taking.proofs.take_available.Tie as tie
 
 abbrev Inv-loop : tie.InvT-loop
 Inv-loop numbers₀ times₀ states₀ waiters₀ out₀ n waiter h₀ count₀ k₀ numbers times states waiters out h count k =

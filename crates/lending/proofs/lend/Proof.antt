@@ -3,10 +3,10 @@ use denote.Ref.{now}
 use lib.ListN.{getD}
 use Rattle.slots.specs.View.{SlotPool, poolOf, idAt}
 use Rattle.slots.specs.Parts.{id-at}
-use Rattle.checkout.specs.Lending.{lent-gone, lent-heard}
+use Rattle.lending.specs.Lending.{lent-gone, lent-heard}
 use borrow.Author.Needs.{needs}
-use Rattle.checkout.proofs.lend.Statement.{statement}
-use Rattle.checkout.proofs.lend.Tie as tie
+use Rattle.lending.proofs.lend.Statement.{statement}
+use Rattle.lending.proofs.lend.Tie as tie
 
 -- the pool that the function is lent, and what it reads as the connection's id
 abbrev lent : tie.Start → SlotPool

@@ -1,9 +1,9 @@
 use denote.Ref.{now}
 use Rattle.slots.specs.View.{SlotPool, poolOf, waiterOf}
-use Rattle.checkout.specs.Lending.{established}
+use Rattle.lending.specs.Lending.{established}
 use borrow.Author.Needs.{needs}
-use Rattle.checkout.proofs.establish.Statement.{statement}
-use Rattle.checkout.proofs.establish.Tie as tie
+use Rattle.lending.proofs.establish.Statement.{statement}
+use Rattle.lending.proofs.establish.Tie as tie
 
 -- the pool that the function is lent, and the one in which one more is pending
 abbrev lent : tie.Start → SlotPool

@@ -32,9 +32,9 @@ pub fn reply(out: &mut [u8], n: u32, serial: u32, waiter: u64, kind: u8, other: 
 {
     let id = waiter / 4;
     if 2 <= waiter % 4 {
-        table::emit(out, n, serial, 21, 0, id, 0);
+        records::emit(out, n, serial, 21, 0, id, 0);
     } else {
-        table::emit(out, n, serial, kind, 0, id, other);
+        records::emit(out, n, serial, kind, 0, id, other);
     }
 }
 
@@ -54,7 +54,7 @@ pub fn close_connection(
     requires { ⌜ Whole (given head numbers times states waiters) × CanClose (given head numbers times states waiters) i × Room 1 n (now out) × (0 < reason) × (reason ≤ 5) ⌝ }
     ensures { λ r. ⌜ Done (closeAt (reasonOf reason) i other (before head numbers times states waiters)) (head .serial) n (now (out .entry)) (after (r .head) numbers times states waiters) (r .count) (now (out .exit)) ⌝ }
 {
-    table::emit(
+    records::emit(
         out,
         n,
         head.serial,
@@ -165,7 +165,7 @@ pub fn create_pending_connection(
 {
     let i = table::find_vacant(numbers);
     let id = head.next_connection_id;
-    table::emit(out, n, head.serial, 1, 0, words::as_u64(id), 0);
+    records::emit(out, n, head.serial, 1, 0, words::as_u64(id), 0);
     let m = head.status;
     numbers[i] = id;
     numbers[GENERATIONS + i] = m.generation;

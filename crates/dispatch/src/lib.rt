@@ -30,7 +30,7 @@ pub fn handle(
     ensures { λ r. ⌜ Done (handle e i (before head numbers times states waiters)) (head .serial) 0 (now (out .entry)) (after (r .head) numbers times states waiters) (r .count) (now (out .exit)) ⌝ }
 {
     match e {
-        Event::CheckOut(id) => steps::request(
+        Event::CheckOut(id) => requests::request(
             head,
             numbers,
             times,
@@ -41,7 +41,7 @@ pub fn handle(
             id,
             false,
         ),
-        Event::WarmPool(id) => steps::request(
+        Event::WarmPool(id) => requests::request(
             head,
             numbers,
             times,
@@ -53,13 +53,13 @@ pub fn handle(
             true,
         ),
         Event::Abandon(_) => {
-            steps::abandon(head, numbers, times, states, waiters, i);
+            requests::abandon(head, numbers, times, states, waiters, i);
             Progress {
                 head: head,
                 count: 0,
             }
         }
-        Event::CheckIn(_, errored, executing, let_go) => steps::check_in(
+        Event::CheckIn(_, errored, executing, let_go) => check_in::check_in(
             head,
             numbers,
             times,
@@ -83,7 +83,7 @@ pub fn handle(
             cause,
         ),
         Event::MarkAsReady => upkeep::mark_as_ready(head, numbers, times, states, waiters, out, 0),
-        Event::Succeeded(_) => steps::handle_connection_succeeded(
+        Event::Succeeded(_) => pending::handle_connection_succeeded(
             head,
             numbers,
             times,
@@ -93,7 +93,7 @@ pub fn handle(
             0,
             i,
         ),
-        Event::SucceededForPool(_, opened) => steps::handle_connection_succeeded_for_pool(
+        Event::SucceededForPool(_, opened) => pending::handle_connection_succeeded_for_pool(
             head,
             numbers,
             times,
@@ -104,7 +104,7 @@ pub fn handle(
             i,
             opened,
         ),
-        Event::Failed(_) => steps::handle_connection_failed(
+        Event::Failed(_) => pending::handle_connection_failed(
             head,
             numbers,
             times,

@@ -54,7 +54,7 @@ pub fn mark_as_ready(
             count: n,
         };
     }
-    table::emit(out, n, head.serial, 5, 0, 0, 0);
+    records::emit(out, n, head.serial, 5, 0, 0, 0);
     let mut h = head;
     let ready = Status {
         state: PoolState::Ready,
@@ -86,7 +86,7 @@ fn interrupt(head: Head, out: &mut [u8], timeout: bool) -> u32
             head.available_count,
             head.pending_connection_count,
         );
-        table::emit(out, 0, head.serial, 8, 0, 0, others);
+        records::emit(out, 0, head.serial, 8, 0, 0, others);
         return 1;
     }
     0
@@ -123,7 +123,7 @@ fn clear_ready(
     let m = head.status;
     let st = m.state;
     if conditions::is_ready(st) {
-        table::emit(
+        records::emit(
             out,
             n,
             head.serial,
@@ -197,7 +197,7 @@ pub fn shut(
     let d = sweeps::tell_all(h, numbers, times, states, waiters, out, c.count, 20, 0);
     let mut g = d.head;
     let k = d.count;
-    table::emit(out, k, g.serial, 7, 0, 0, 0);
+    records::emit(out, k, g.serial, 7, 0, 0, 0);
     let closed = Status {
         state: PoolState::Closed,
         generation: m.generation,

@@ -7,7 +7,7 @@ use Rattle.acts.proofs.close_connection.Tie as tie
 use Rattle.acts.proofs.close_connection.Reads as reads
 use Rattle.acts.proofs.close_connection.Lts as lts
 use Rattle.words.proofs.as_u64.Reads as as-u64-reads
-use Rattle.table.proofs.emit.Reads as emit-reads
+use Rattle.records.proofs.emit.Reads as emit-reads
 
 mul-as-u64 : tie.Need-mul-as-u64
 mul-as-u64 c = search needs

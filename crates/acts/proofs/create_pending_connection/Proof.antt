@@ -10,7 +10,7 @@ use Rattle.acts.proofs.create_pending_connection.Tie as tie
 use Rattle.acts.proofs.create_pending_connection.Reads as reads
 use Rattle.acts.proofs.create_pending_connection.Lts as lts
 use Rattle.words.proofs.as_u64.Reads as as-u64-reads
-use Rattle.table.proofs.emit.Reads as emit-reads
+use Rattle.records.proofs.emit.Reads as emit-reads
 use Rattle.table.proofs.find_vacant.Reads as find-vacant-reads
 
 -- there is a vacant slot

@@ -10,7 +10,7 @@ use Rattle.acts.proofs.reply.Statement.{statement}
 use Rattle.acts.proofs.reply.Tie as tie
 use Rattle.acts.proofs.reply.Reads as reads
 use Rattle.acts.proofs.reply.Lts as lts
-use Rattle.table.proofs.emit.Reads as emit-reads
+use Rattle.records.proofs.emit.Reads as emit-reads
 
 emit-requires : tie.Need-emit-requires
 emit-requires c κs = search needs

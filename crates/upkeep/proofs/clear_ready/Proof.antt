@@ -9,7 +9,7 @@ use Rattle.upkeep.proofs.clear_ready.Lts as lts
 use Rattle.conditions.proofs.is_ready.Reads as is-ready-reads
 use Rattle.words.proofs.as_u64.Reads as as-u64-reads
 use Rattle.sweeps.proofs.tell_all.Reads as tell-all-reads
-use Rattle.table.proofs.emit.Reads as emit-reads
+use Rattle.records.proofs.emit.Reads as emit-reads
 use Rattle.upkeep.proofs.flag.Reads as flag-reads
 use Rattle.upkeep.proofs.next_generation.Reads as next-generation-reads
 

@@ -4,7 +4,7 @@ use Rattle.upkeep.proofs.interrupt.Statement.{statement}
 use Rattle.upkeep.proofs.interrupt.Tie as tie
 use Rattle.upkeep.proofs.interrupt.Reads as reads
 use Rattle.upkeep.proofs.interrupt.Lts as lts
-use Rattle.table.proofs.emit.Reads as emit-reads
+use Rattle.records.proofs.emit.Reads as emit-reads
 use Rattle.upkeep.proofs.lent.Reads as lent-reads
 
 lent-requires : tie.Need-lent-requires

@@ -7,7 +7,7 @@ use Rattle.upkeep.proofs.mark_as_ready.Tie as tie
 use Rattle.upkeep.proofs.mark_as_ready.Reads as reads
 use Rattle.upkeep.proofs.mark_as_ready.Lts as lts
 use Rattle.conditions.proofs.is_ready.Reads as is-ready-reads
-use Rattle.table.proofs.emit.Reads as emit-reads
+use Rattle.records.proofs.emit.Reads as emit-reads
 
 -- the pool that the step is lent
 abbrev lent : tie.Start → SlotPool

@@ -13,7 +13,7 @@ use Rattle.upkeep.proofs.shut.Reads as reads
 use Rattle.upkeep.proofs.shut.Lts as lts
 use Rattle.sweeps.proofs.close_available.Reads as close-available-reads
 use Rattle.sweeps.proofs.tell_all.Reads as tell-all-reads
-use Rattle.table.proofs.emit.Reads as emit-reads
+use Rattle.records.proofs.emit.Reads as emit-reads
 
 -- the pool that the step is lent
 abbrev lent : tie.Start → SlotPool

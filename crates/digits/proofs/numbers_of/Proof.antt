@@ -3,11 +3,11 @@ use mathlib.Core.Logic.{⊎-elim}
 use Prim.Native.Nat.{_<_, _-_}
 use native.Mathlib.Omega.{arith}
 use lib.ListN.{length}
-use Rattle.reading.specs.Decode.{digits?}
-use Rattle.reading.proofs.Laws.{Numbering, numbering-good, numbering-bad, numbering-end}
+use Rattle.digits.specs.Decode.{digits?}
+use Rattle.digits.proofs.Laws.{Numbering, numbering-good, numbering-bad, numbering-end}
 use borrow.Author.Needs.{needs}
-use Rattle.reading.proofs.numbers_of.Statement.{statement}
-use Rattle.reading.proofs.numbers_of.Tie as tie
+use Rattle.digits.proofs.numbers_of.Statement.{statement}
+use Rattle.digits.proofs.numbers_of.Tie as tie
 
 abbrev Inv-loop : tie.InvT-loop
 Inv-loop s good₀ numbers₀ i₀ good numbers i = Numbering s i good numbers

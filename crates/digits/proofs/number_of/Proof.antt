@@ -1,10 +1,10 @@
 use mathlib.Core.Path.{_∙_}
 use native.Mathlib.Omega.{arith}
 use mathlib.Core.Logic.{⊎-elim}
-use Rattle.reading.proofs.Laws.{number-decimal, number-letter, number-low, number-between, number-high}
+use Rattle.digits.proofs.Laws.{number-decimal, number-letter, number-low, number-between, number-high}
 use borrow.Author.Needs.{needs}
-use Rattle.reading.proofs.number_of.Statement.{statement}
-use Rattle.reading.proofs.number_of.Tie as tie
+use Rattle.digits.proofs.number_of.Statement.{statement}
+use Rattle.digits.proofs.number_of.Tie as tie
 
 sub-v : tie.Need-sub-v
 sub-v c = search needs

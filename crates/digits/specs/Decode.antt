@@ -6,8 +6,8 @@ use mathlib.Core.Option.{Option, none, some}
 use Prim.Native.Nat.{ℕ, _+_, _*_, _%_}
 use Rattle.definition.specs.Words.{if_then_else_, _<?_}
 use Rattle.definition.specs.Bytes.{valueOf}
-use Rattle.reading.specs.declared.Numbers.{Numbers}
-use Rattle.reading.specs.declared.Bytes.{Bytes}
+use Rattle.digits.specs.declared.Numbers.{Numbers}
+use Rattle.digits.specs.declared.Bytes.{Bytes}
 
 -- the number of a digit, and 16 for what is none
 abbrev pub orSixteen : Option ℕ → ℕ

@@ -2,10 +2,10 @@ use mathlib.Core.Path.{_≡_, refl}
 use Prim.Native.Nat.{_-_}
 use native.Mathlib.Omega.{arith}
 use lib.ListN.{length}
-use Rattle.reading.proofs.Laws.{Pairing, pairing-more, pairing-end}
+use Rattle.digits.proofs.Laws.{Pairing, pairing-more, pairing-end}
 use borrow.Author.Needs.{needs}
-use Rattle.reading.proofs.paired.Statement.{statement}
-use Rattle.reading.proofs.paired.Tie as tie
+use Rattle.digits.proofs.paired.Statement.{statement}
+use Rattle.digits.proofs.paired.Tie as tie
 
 abbrev Inv-loop : tie.InvT-loop
 Inv-loop numbers bytes₀ i₀ bytes i = Pairing numbers bytes i

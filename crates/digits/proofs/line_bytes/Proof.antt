@@ -2,8 +2,8 @@ use borrow.Author.Tests.{eq-eqb, ne-eqb}
 use Rattle.definition.specs.Words.{if_then_else_}
 use Rattle.definition.specs.Bytes.{bytesOf}
 use borrow.Author.Needs.{needs}
-use Rattle.reading.proofs.line_bytes.Statement.{statement}
-use Rattle.reading.proofs.line_bytes.Tie as tie
+use Rattle.digits.proofs.line_bytes.Statement.{statement}
+use Rattle.digits.proofs.line_bytes.Tie as tie
 
 shared-slice-read-if2 : tie.Need-shared-slice-read-if2
 shared-slice-read-if2 c = search needs

@@ -1,9 +1,9 @@
-use lib.ListN.{length, take, length-take}
+use lib.ListN.{take, length-take}
 use native.Mathlib.Omega.{arith}
-use Rattle.reading.proofs.Laws.{decode-end}
+use Rattle.digits.proofs.Laws.{decode-end}
 use borrow.Author.Needs.{needs}
-use Rattle.reading.proofs.decode.Statement.{statement}
-use Rattle.reading.proofs.decode.Tie as tie
+use Rattle.digits.proofs.decode.Statement.{statement}
+use Rattle.digits.proofs.decode.Tie as tie
 
 numbers-of-requires : tie.Need-numbers-of-requires
 numbers-of-requires c κs = search needs

@@ -1,13 +1,13 @@
-use Rattle.verdict.specs.Exits.{common-back, common-taken, common-closed, common-spent, common-open}
+use Rattle.common_tests.specs.Exits.{common-back, common-taken, common-closed, common-spent, common-open}
 use borrow.Author.Needs.{needs}
-use Rattle.verdict.proofs.common_verdict.Statement.{statement}
-use Rattle.verdict.proofs.common_verdict.Tie as tie
-use Rattle.verdict.proofs.common_verdict.Reads as reads
-use Rattle.verdict.proofs.common_verdict.Lts as lts
+use Rattle.common_tests.proofs.common_verdict.Statement.{statement}
+use Rattle.common_tests.proofs.common_verdict.Tie as tie
+use Rattle.common_tests.proofs.common_verdict.Reads as reads
+use Rattle.common_tests.proofs.common_verdict.Lts as lts
 use Rattle.conditions.proofs.is_closed.Reads as is-closed-reads
-use Rattle.verdict.proofs.kind_no.Reads as kind-no-reads
-use Rattle.verdict.proofs.numbers_spent.Reads as numbers-spent-reads
-use Rattle.verdict.proofs.taken_after_close.Reads as taken-after-close-reads
+use Rattle.common_tests.proofs.kind_no.Reads as kind-no-reads
+use Rattle.common_tests.proofs.numbers_spent.Reads as numbers-spent-reads
+use Rattle.common_tests.proofs.taken_after_close.Reads as taken-after-close-reads
 
 returns : tie.Need-returns
 returns c =

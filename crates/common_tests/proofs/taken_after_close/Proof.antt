@@ -1,10 +1,10 @@
 use Prim.Native.Nat.{_<_}
 use native.Mathlib.Omega.{arith}
 use borrow.Author.Tests.{eq-eqb, ne-eqb, le-leb, lt-leb}
-use Rattle.verdict.proofs.taken_after_close.Statement.{statement}
-use Rattle.verdict.proofs.taken_after_close.Tie as tie
-use Rattle.verdict.proofs.taken_after_close.Reads as reads
-use Rattle.verdict.proofs.taken_after_close.Lts as lts
+use Rattle.common_tests.proofs.taken_after_close.Statement.{statement}
+use Rattle.common_tests.proofs.taken_after_close.Tie as tie
+use Rattle.common_tests.proofs.taken_after_close.Reads as reads
+use Rattle.common_tests.proofs.taken_after_close.Lts as lts
 
 returns : tie.Need-returns
 returns c = rw (eq-eqb _ _ (c .if1 .taken))

@@ -1,9 +1,9 @@
 use borrow.Author.Tests.{eq-eqb, ne-eqb, lt-ltb, le-ltb}
 use Rattle.definition.specs.Refusals.{lastNextId}
-use Rattle.verdict.proofs.numbers_spent.Statement.{statement}
-use Rattle.verdict.proofs.numbers_spent.Tie as tie
-use Rattle.verdict.proofs.numbers_spent.Reads as reads
-use Rattle.verdict.proofs.numbers_spent.Lts as lts
+use Rattle.common_tests.proofs.numbers_spent.Statement.{statement}
+use Rattle.common_tests.proofs.numbers_spent.Tie as tie
+use Rattle.common_tests.proofs.numbers_spent.Reads as reads
+use Rattle.common_tests.proofs.numbers_spent.Lts as lts
 
 returns : tie.Need-returns
 returns c = rw (c .if1 .taken)

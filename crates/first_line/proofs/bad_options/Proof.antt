@@ -1,10 +1,10 @@
 use Rattle.definition.specs.Day.{entryBytes}
 use borrow.Author.Needs.{needs}
-use Rattle.lines.proofs.bad_options.Statement.{statement}
-use Rattle.lines.proofs.bad_options.Tie as tie
-use Rattle.lines.proofs.bad_options.Reads as reads
-use Rattle.lines.proofs.bad_options.Lts as lts
-use Rattle.lines.proofs.ended.Reads as ended-reads
+use Rattle.first_line.proofs.bad_options.Statement.{statement}
+use Rattle.first_line.proofs.bad_options.Tie as tie
+use Rattle.first_line.proofs.bad_options.Reads as reads
+use Rattle.first_line.proofs.bad_options.Lts as lts
+use Rattle.first_line.proofs.ended.Reads as ended-reads
 use Rattle.printing.proofs.print_refusal.Reads as print-refusal-reads
 
 print-refusal-requires : tie.Need-print-refusal-requires

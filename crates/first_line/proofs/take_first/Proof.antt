@@ -9,14 +9,14 @@ use Rattle.slots.specs.declared.Head.{Head}
 use Rattle.refinement.specs.Alike.{freshHead}
 use Rattle.refinement.specs.Formed.{overBlank}
 use Rattle.reading.specs.Given.{optionsIn}
-use Rattle.lines.specs.Code.{goingPace, Opens}
-use Rattle.lines.specs.Exits.{options-malformed, options-out, options-made, opens-bad, opens-made}
+use Rattle.first_line.specs.Code.{goingPace, Opens}
+use Rattle.first_line.specs.Exits.{options-malformed, options-out, options-made, opens-bad, opens-made}
 use borrow.Author.Needs.{needs}
-use Rattle.lines.proofs.take_first.Statement.{statement}
-use Rattle.lines.proofs.take_first.Tie as tie
-use Rattle.lines.proofs.take_first.Reads as reads
-use Rattle.lines.proofs.take_first.Lts as lts
-use Rattle.lines.proofs.bad_options.Reads as bad-options-reads
+use Rattle.first_line.proofs.take_first.Statement.{statement}
+use Rattle.first_line.proofs.take_first.Tie as tie
+use Rattle.first_line.proofs.take_first.Reads as reads
+use Rattle.first_line.proofs.take_first.Lts as lts
+use Rattle.first_line.proofs.bad_options.Reads as bad-options-reads
 use Rattle.pool.proofs.fresh_head.Reads as fresh-head-reads
 use Rattle.pool.proofs.in_range.Reads as in-range-reads
 use Rattle.pool.proofs.with_defaults.Reads as with-defaults-reads

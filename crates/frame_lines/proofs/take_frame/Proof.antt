@@ -3,15 +3,15 @@ use Prim.Native.Nat.{ℕ}
 use denote.Ref.{now}
 use Rattle.definition.specs.Bytes.{frameOfLine}
 use Rattle.slots.specs.View.{SlotPool, given, poolOf}
-use Rattle.lines.specs.Exits.{call-fits, frame-said}
+use Rattle.frame_lines.specs.Exits.{call-fits, frame-said}
 use borrow.Author.Needs.{needs}
-use Rattle.lines.proofs.take_frame.Statement.{statement}
-use Rattle.lines.proofs.take_frame.Tie as tie
-use Rattle.lines.proofs.take_frame.Reads as reads
-use Rattle.lines.proofs.take_frame.Lts as lts
+use Rattle.frame_lines.proofs.take_frame.Statement.{statement}
+use Rattle.frame_lines.proofs.take_frame.Tie as tie
+use Rattle.frame_lines.proofs.take_frame.Reads as reads
+use Rattle.frame_lines.proofs.take_frame.Lts as lts
 use Rattle.event.proofs.call.Reads as call-reads
-use Rattle.lines.proofs.counted.Reads as counted-reads
-use Rattle.lines.proofs.say.Reads as say-reads
+use Rattle.frame_lines.proofs.counted.Reads as counted-reads
+use Rattle.frame_lines.proofs.say.Reads as say-reads
 use Rattle.reading.proofs.line_frame.Reads as line-frame-reads
 
 abbrev read : tie.After-call → tie.After-line-frame

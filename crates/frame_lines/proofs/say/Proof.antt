@@ -2,13 +2,13 @@ use native.Mathlib.Omega.{arith}
 use Prim.Native.Nat.{_≤_, _+_}
 use denote.Ref.{now}
 use Rattle.definition.specs.Refusals.{roomRecords}
-use Rattle.lines.specs.Exits.{few-records, said-refused, said-records}
+use Rattle.frame_lines.specs.Exits.{few-records, said-refused, said-records}
 use borrow.Author.Needs.{needs}
-use Rattle.lines.proofs.say.Statement.{statement}
-use Rattle.lines.proofs.say.Tie as tie
-use Rattle.lines.proofs.say.Reads as reads
-use Rattle.lines.proofs.say.Lts as lts
-use Rattle.lines.proofs.line_number.Reads as line-number-reads
+use Rattle.frame_lines.proofs.say.Statement.{statement}
+use Rattle.frame_lines.proofs.say.Tie as tie
+use Rattle.frame_lines.proofs.say.Reads as reads
+use Rattle.frame_lines.proofs.say.Lts as lts
+use Rattle.frame_lines.proofs.line_number.Reads as line-number-reads
 use Rattle.printing.proofs.print_records.Reads as print-records-reads
 use Rattle.printing.proofs.print_refusal.Reads as print-refusal-reads
 

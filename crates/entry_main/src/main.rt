@@ -249,7 +249,7 @@ fn on_line(p: Pool, kept: Pool, kind: u8, rest: &[u8]) -> Pool {
         }
         b'b' => kept,
         _ => {
-            let l = reading::line_bytes(rest);
+            let l = digits::line_bytes(rest);
             if l.good {
                 let bytes = l.bytes;
                 return on_bytes(p, kind, bytes);

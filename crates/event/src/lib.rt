@@ -63,7 +63,7 @@ pub fn event(
     let mut h = head;
     h.clock = time;
     let c = dispatch::handle(h, numbers, times, states, waiters, out, e, i);
-    if is_serviced(verdict::kind_no(e)) {
+    if is_serviced(common_tests::kind_no(e)) {
         let g = c.head;
         let n = c.count;
         return checkout::service(g, numbers, times, states, waiters, out, n);

@@ -12,10 +12,12 @@ use borrow.Author.Tests.{leb-true, leb-false, ne-eqb}
 use Rattle.definition.specs.Words.{if_then_else_, _<?_}
 use Rattle.definition.specs.Bytes.{bytesOf, frameOfLine, optionsOfLine, orBad, orNone}
 use Rattle.slots.specs.Call.{call}
-use Rattle.lines.specs.declared.Phase.{Phase}
-use Rattle.lines.specs.declared.Phase.the-variants.{First, Going, Ended}
-use Rattle.lines.specs.Machine.{quiet}
-use Rattle.lines.specs.OnSlots.{Play, options, answered, lineIn, lineSlots}
+use Rattle.first_line.specs.declared.Phase.{Phase}
+use Rattle.first_line.specs.declared.Phase.the-variants.{First, Going, Ended}
+use Rattle.first_line.specs.Took.{quiet}
+use Rattle.first_line.specs.OnSlots.{Play, options}
+use Rattle.frame_lines.specs.OnSlots.{answered}
+use Rattle.lines.specs.OnSlots.{lineIn, lineSlots}
 use Rattle.pieces.specs.Feed.{heldMost}
 
 no-bytes : (l : List ℕ) → (length l ≡ 49 → ⊥) → bytesOf l ≡ none

@@ -8,7 +8,8 @@ use borrow.Author.Tests.{lt-ltb, le-ltb}
 use lib.ListN.{length, take, drop, length-take, drop-of-length-le}
 use Rattle.definition.specs.Words.{if_then_else_, _<?_, _=?_}
 use Rattle.definition.specs.Bytes.{newline}
-use Rattle.lines.specs.Machine.{Took, Machine, lineRoom}
+use Rattle.first_line.specs.Took.{Took, lineRoom}
+use Rattle.lines.specs.Machine.{Machine}
 use Rattle.newlines.specs.Newlines.{lineLen, ends, len-true, len-false, len-nil, len-positive}
 use Rattle.pieces.specs.Feed.{View, Fed, heldMost, stop, joined, emptied, push, feedIn, goOn, in-true, in-false, in-nil}
 use Rattle.pieces.specs.Cap.{cap-append}

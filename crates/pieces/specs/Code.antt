@@ -3,9 +3,9 @@ use mathlib.Core.Path.{_≡_}
 use mathlib.Core.List.{List, _++_}
 use Prim.Native.Nat.{ℕ, _-_, _≤_, min}
 use lib.ListN.{length, take, drop, replicate}
-use Rattle.lines.specs.Machine.{lineRoom}
-use Rattle.lines.specs.OnSlots.{Play}
-use Rattle.lines.specs.Code.{Able}
+use Rattle.first_line.specs.Took.{lineRoom}
+use Rattle.first_line.specs.OnSlots.{Play}
+use Rattle.first_line.specs.Code.{Able}
 use Rattle.pieces.specs.Feed.{View, Fed, heldMost}
 
 -- the machine's state, and the first n bytes that are held

@@ -6,7 +6,8 @@ use Prim.Native.Nat.{ℕ, _-_}
 use lib.ListN.{length, take}
 use Rattle.definition.specs.Words.{if_then_else_, _<?_, _=?_}
 use Rattle.definition.specs.Bytes.{newline}
-use Rattle.lines.specs.Machine.{Took, Machine, lineRoom}
+use Rattle.first_line.specs.Took.{Took, lineRoom}
+use Rattle.lines.specs.Machine.{Machine}
 
 -- a state, and the bytes of the line that has not ended: 50 at most, since a line of more than 49 is malformed
 pub record View (S : Type 0) : Type 0 where

@@ -7,9 +7,10 @@ use native.Mathlib.Omega.{arith}
 use lib.ListN.{length, take, drop, replicate}
 use lib.Seq.{paste, length-paste, take-paste, drop-paste, drop-drop, take-append-add, length-take-le, take-nil}
 use Rattle.definition.specs.Words.{if_then_else_}
-use Rattle.lines.specs.Machine.{Took}
-use Rattle.lines.specs.OnSlots.{Play, lineSlots, onSlots}
-use Rattle.lines.specs.Code.{Able, Lined}
+use Rattle.first_line.specs.Took.{Took}
+use Rattle.first_line.specs.OnSlots.{Play}
+use Rattle.first_line.specs.Code.{Able, Lined}
+use Rattle.lines.specs.OnSlots.{lineSlots, onSlots}
 use Rattle.newlines.specs.Newlines.{ends}
 use Rattle.pieces.specs.Feed.{Fed, heldMost, stop, emptied}
 use Rattle.pieces.specs.Cap.{line-cap}

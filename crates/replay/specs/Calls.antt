@@ -8,7 +8,8 @@ use borrow.Author.Tests.{ltb-true}
 use lib.ListN.{length, take, drop, take-append-drop, length-append}
 use Rattle.definition.specs.Words.{if_then_else_, _<?_, _=?_}
 use Rattle.definition.specs.Bytes.{newline}
-use Rattle.lines.specs.Machine.{Took, Machine, lineRoom, thereafter}
+use Rattle.first_line.specs.Took.{Took, lineRoom}
+use Rattle.lines.specs.Machine.{Machine, thereafter}
 use Rattle.pieces.specs.Feed.{View, Fed, stop, joined, emptied, push, lineAt, finish, feedIn, goOn, in-true, in-false, in-nil}
 
 module _ {S O : Type 0} (m : Machine S O) where

@@ -11,8 +11,9 @@ use Rattle.definition.specs.Words.{if_then_else_, _=?_, _≤?_}
 use Rattle.definition.specs.Day.{logOf}
 use Rattle.definition.specs.Refusals.{enoughRoom}
 use Rattle.refinement.specs.Alike.{freshSlots}
-use Rattle.lines.specs.Machine.{Took, lineRoom}
-use Rattle.lines.specs.OnSlots.{Play, onSlots}
+use Rattle.first_line.specs.Took.{Took, lineRoom}
+use Rattle.first_line.specs.OnSlots.{Play}
+use Rattle.lines.specs.OnSlots.{onSlots}
 use Rattle.pieces.specs.Feed.{Fed, stop, joined, goOn, finish}
 use Rattle.runs.specs.Code.{noOptions}
 use Rattle.session.specs.Code.{opening}

@@ -9,8 +9,9 @@ use lib.ListN.{length, take, drop, length-append, length-drop}
 use Rattle.definition.specs.Booleans.{no-first, no-second}
 use Rattle.definition.specs.Words.{if_then_else_, _=?_, _≤?_}
 use Rattle.big_endian.specs.Laws.{tail-more}
-use Rattle.lines.specs.Machine.{Took, lineRoom}
-use Rattle.lines.specs.OnSlots.{Play, onSlots}
+use Rattle.first_line.specs.Took.{Took, lineRoom}
+use Rattle.first_line.specs.OnSlots.{Play}
+use Rattle.lines.specs.OnSlots.{onSlots}
 use Rattle.pieces.specs.Feed.{View, Fed, goOn, finish}
 use Rattle.runs.specs.Code.{Read}
 use Rattle.session.specs.declared.Session.{Session}

@@ -16,7 +16,8 @@ use Rattle.definition.specs.Day.{Entry, RefusedLine, entriesOf, frames, Day, da
 use Rattle.definition.specs.declared.Options.{Options}
 use Rattle.definition.specs.declared.Refusal.{Refusal}
 use Rattle.definition.specs.declared.Refusal.the-variants.{Malformed}
-use Rattle.lines.specs.Machine.{Took, Machine, quiet, thereafter}
+use Rattle.first_line.specs.Took.{Took, quiet}
+use Rattle.lines.specs.Machine.{Machine, thereafter}
 use Rattle.pieces.specs.Feed.{heldMost, emptied}
 use Rattle.pieces.specs.Cap.{frame-cap, options-cap}
 use Rattle.replay.specs.Calls.{Lend, feed, ended, calls, calls-whole}

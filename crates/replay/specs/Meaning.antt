@@ -27,11 +27,15 @@ use Rattle.refinement.specs.Call.{Refines, call-refines}
 use Rattle.refinement.specs.Formed.{fresh-stands}
 use Rattle.printing.specs.Printed.{printed}
 use Rattle.refinement.specs.RecordRoom.{FewIn, call-few}
-use Rattle.lines.specs.declared.Phase.{Phase}
-use Rattle.lines.specs.declared.Phase.the-variants as phase
-use Rattle.lines.specs.Machine.{Took, quiet}
+use Rattle.first_line.specs.declared.Phase.{Phase}
+use Rattle.first_line.specs.declared.Phase.the-variants as phase
+use Rattle.first_line.specs.Took.{Took, quiet}
+use Rattle.first_line.specs.OnSlots as O
+use Rattle.first_line.specs.OnSlots.{Play, refusedLine}
+use Rattle.frame_lines.specs.OnSlots as F
+use Rattle.frame_lines.specs.OnSlots.{saidOf}
 use Rattle.lines.specs.OnSlots as P
-use Rattle.lines.specs.OnSlots.{Play, refusedLine, saidOf, lineSlots, lastSlots, onSlots}
+use Rattle.lines.specs.OnSlots.{lineSlots, lastSlots, onSlots}
 use Rattle.pieces.specs.Feed.{Fed, emptied}
 use Rattle.session.specs.Code.{begun}
 use Rattle.replay.specs.Calls.{Lend, feed, ended, calls, calls-whole}
@@ -92,15 +96,15 @@ module _ (s : Play) (t : Lists) (m : Pool) (st : Stands (s .pool) m) (h : Plays 
   one-more : s .used + 1 ≡ t .used + 1
   one-more = ap (λ (x : ℕ). x + 1) (h .used)
 
-  world-says : (w : World) (r : R.Result) → Refines (s .pool) (s .scratch) w r → FewIn (w .outcome) → Says (P.answered s w) (L.answered t m r)
+  world-says : (w : World) (r : R.Result) → Refines (s .pool) (s .scratch) w r → FewIn (w .outcome) → Says (F.answered s w) (L.answered t m r)
   world-says w (R.Refused x) k few =
       let e = k .refuses x refl in
-      let q : Says (P.answered s (record { pool = s .pool; out = s .scratch; outcome = Refused x })) (L.answered t m (R.Refused x)) =
+      let q : Says (F.answered s (record { pool = s .pool; out = s .scratch; outcome = Refused x })) (L.answered t m (R.Refused x)) =
       record {
         plays = record { used = one-more; budget = h .budget; stage = st; room = h .room };
         text = ap (refusedLine x) line-number ∙ text-one (RefusedLine x (t .used + 2));
       } in
-      subst (λ (v : World). Says (P.answered s v) (L.answered t m (R.Refused x))) (sym e) q
+      subst (λ (v : World). Says (F.answered s v) (L.answered t m (R.Refused x))) (sym e) q
   world-says w (R.Accepted o) k few =
       let a = k .accepts o refl in
       let n : length (o .records) ≤ roomRecords = subst FewIn (a .outcome) few in
@@ -111,9 +115,9 @@ module _ (s : Play) (t : Lists) (m : Pool) (st : Stands (s .pool) m) (h : Plays 
             ∙ printed-lay (s .pool .serial) (m .written) (o .records) (s .scratch) (st .alike .serial) (omega (arith, h .room));
       }
 
-  frame-says : (f : Frame) → Says (P.answered s (call (s .pool) (s .scratch) f)) (L.answered t m (R.step m f enoughRoom))
+  frame-says : (f : Frame) → Says (F.answered s (call (s .pool) (s .scratch) f)) (L.answered t m (R.step m f enoughRoom))
   frame-says f =
-      subst (λ (r : R.Result). Says (P.answered s (call (s .pool) (s .scratch) f)) (L.answered t m r)) (step-room m f (length (s .scratch)) (h .room))
+      subst (λ (r : R.Result). Says (F.answered s (call (s .pool) (s .scratch) f)) (L.answered t m r)) (step-room m f (length (s .scratch)) (h .room))
       (world-says (call (s .pool) (s .scratch) f) (R.step m f (length (s .scratch))) (call-refines (s .pool) m st f (s .scratch))
       (call-few (s .pool) m (s .scratch) f st))
 
@@ -123,20 +127,20 @@ module _ (s : Play) (t : Lists) (h : Plays s t) where
   quiet-says : Says (quiet s) (quiet t)
   quiet-says = record { plays = h; text = text-none }
 
-  bad-says : (r : Refusal) → Says (P.badly s r) (L.badly t r)
+  bad-says : (r : Refusal) → Says (O.badly s r) (L.badly t r)
   bad-says r = record { plays = record { used = h .used; budget = h .budget; stage = tt; room = h .room }; text = text-one (RefusedLine r 1) }
 
-  made-says : (o : Options) → Says (P.made s (withDefaults o)) (L.made t (make o))
+  made-says : (o : Options) → Says (O.made s (withDefaults o)) (L.made t (make o))
   unfolding make if_then_else_
   made-says o = go (inRange (withDefaults o)) refl
     where
       go : (b : Bool) → inRange (withDefaults o) ≡ b
-          → Says (if b then P.ready s (withDefaults o) else P.badly s OptionsOutOfRange)
+          → Says (if b then O.ready s (withDefaults o) else O.badly s OptionsOutOfRange)
           (L.made t (if b then R.Made (fresh (withDefaults o)) else R.NotMade OptionsOutOfRange))
       go true e = record { plays = record { used = h .used; budget = h .budget; stage = fresh-stands (withDefaults o) e; room = h .room }; text = text-none }
       go false e = bad-says OptionsOutOfRange
 
-  options-says : (x : Option Options) → Says (P.options s x) (L.options t x)
+  options-says : (x : Option Options) → Says (O.options s x) (L.options t x)
   options-says none = bad-says Malformed
   options-says (some o) = made-says o
 
@@ -151,7 +155,7 @@ module _ (s : Play) (t : Lists) (h : Plays s t) where
       go (s .used <? s .budget) (t .used <? t .budget) d
     where
       go : (a b : Bool) → a ≡ b
-          → Says (if a then P.answered s (call (s .pool) (s .scratch) (frameOfLine l)) else quiet s)
+          → Says (if a then F.answered s (call (s .pool) (s .scratch) (frameOfLine l)) else quiet s)
           (if b then L.answered t m (R.step m (frameOfLine l) enoughRoom) else quiet t)
       go true true d = frame-says s t m st h (frameOfLine l)
       go false false d = quiet-says

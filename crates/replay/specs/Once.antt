@@ -7,11 +7,11 @@ use native.Mathlib.Omega.{arith}
 use lib.ListN.{length, take, drop, replicate, take-append-drop, length-drop}
 use lib.Seq.{length-take-le}
 use Rattle.slots.specs.View.{SlotPool}
-use Rattle.lines.specs.declared.Phase.{Phase}
-use Rattle.lines.specs.declared.Pace.{Pace}
-use Rattle.lines.specs.Machine.{Took}
-use Rattle.lines.specs.OnSlots.{Play}
-use Rattle.lines.specs.Code.{Lined}
+use Rattle.first_line.specs.declared.Phase.{Phase}
+use Rattle.first_line.specs.declared.Pace.{Pace}
+use Rattle.first_line.specs.Took.{Took}
+use Rattle.first_line.specs.OnSlots.{Play}
+use Rattle.first_line.specs.Code.{Lined}
 use Rattle.pieces.specs.Feed.{View, Fed, heldMost}
 use Rattle.pieces.specs.Code.{Holds}
 use Rattle.runs.specs.declared.Run.{Run}

@@ -9,8 +9,10 @@ use lib.Seq.{take-at}
 use Rattle.definition.specs.Words.{if_then_else_, _<?_, _=?_}
 use Rattle.definition.specs.Bytes.{newline}
 use Rattle.definition.specs.Day.{logOf, framesUsed}
-use Rattle.lines.specs.Machine.{Took, Machine, lineRoom}
-use Rattle.lines.specs.OnSlots.{Play, onSlots}
+use Rattle.first_line.specs.Took.{Took, lineRoom}
+use Rattle.first_line.specs.OnSlots.{Play}
+use Rattle.lines.specs.Machine.{Machine}
+use Rattle.lines.specs.OnSlots.{onSlots}
 use Rattle.pieces.specs.Feed.{View, Fed, stop, joined, emptied, push, lineAt, finish, feedIn, goOn, in-true, in-false, in-nil}
 use Rattle.pieces.specs.Chunks.{in-less}
 use Rattle.session.specs.declared.Session.{Session}

@@ -12,10 +12,13 @@ use Rattle.definition.specs.Day.{before, linesOf}
 use Rattle.definition.specs.declared.Options.{Options}
 use Rattle.definition.specs.declared.Refusal.the-variants.{OptionsOutOfRange}
 use Rattle.slots.specs.Call.{call}
-use Rattle.lines.specs.declared.Phase.{Phase}
-use Rattle.lines.specs.declared.Phase.the-variants.{First, Going, Ended}
-use Rattle.lines.specs.Machine.{Took, Machine, quiet, thereafter}
-use Rattle.lines.specs.OnSlots.{Play, options, ready, badly, answered, lineIn, lastIn, lineSlots, lastSlots, onSlots}
+use Rattle.first_line.specs.declared.Phase.{Phase}
+use Rattle.first_line.specs.declared.Phase.the-variants.{First, Going, Ended}
+use Rattle.first_line.specs.Took.{Took, quiet}
+use Rattle.first_line.specs.OnSlots.{Play, options, ready, badly}
+use Rattle.frame_lines.specs.OnSlots.{answered}
+use Rattle.lines.specs.Machine.{Machine, thereafter}
+use Rattle.lines.specs.OnSlots.{lineIn, lastIn, lineSlots, lastSlots, onSlots}
 use Rattle.pieces.specs.Feed.{View, Fed, heldMost, joined, emptied, finish}
 use Rattle.pieces.specs.Cap.{cap-append, line-cap}
 use Rattle.replay.specs.Calls.{feed, feed-true, feed-false, feed-nil, ended}

@@ -5,7 +5,7 @@
 // A budget of N takes at most N frames; without one, all are taken. --used tells the frames used on standard error.
 ghost use Prim.Native.Nat.{_≤_};
 ghost use lib.ListN.{length};
-ghost use Rattle.lines.specs.Machine.{lineRoom};
+ghost use Rattle.first_line.specs.Took.{lineRoom};
 ghost use Rattle.session.specs.Code.{Ready};
 use libc::STDERR_FILENO;
 use libc::STDIN_FILENO;

@@ -5,9 +5,9 @@ use Prim.Native.Nat.{ℕ, _≤_}
 use lib.ListN.{length, drop, replicate}
 use Rattle.definition.specs.declared.Options.{Options}
 use Rattle.slots.specs.View.{SlotPool}
-use Rattle.lines.specs.declared.Phase.the-variants.{First}
-use Rattle.lines.specs.OnSlots.{Play}
-use Rattle.lines.specs.Code.{playOf, Able}
+use Rattle.first_line.specs.declared.Phase.the-variants.{First}
+use Rattle.first_line.specs.OnSlots.{Play}
+use Rattle.first_line.specs.Code.{playOf, Able}
 use Rattle.pieces.specs.Feed.{View, Fed, heldMost}
 use Rattle.pieces.specs.Code.{heldOf, Holds}
 use Rattle.runs.specs.declared.Run.{Run}

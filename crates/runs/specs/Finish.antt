@@ -5,10 +5,12 @@ use Prim.Native.Nat.{ℕ, _<_}
 use native.Mathlib.Omega.{arith}
 use lib.ListN.{length, take, length-take}
 use Rattle.slots.specs.View.{SlotPool}
-use Rattle.lines.specs.declared.Pace.{Pace}
-use Rattle.lines.specs.Machine.{Took}
-use Rattle.lines.specs.OnSlots.{Play, lineSlots, lastSlots, onSlots}
-use Rattle.lines.specs.Code.{playOf, Lined, Ends}
+use Rattle.first_line.specs.declared.Pace.{Pace}
+use Rattle.first_line.specs.Took.{Took}
+use Rattle.first_line.specs.OnSlots.{Play}
+use Rattle.first_line.specs.Code.{playOf, Lined}
+use Rattle.lines.specs.OnSlots.{lineSlots, lastSlots, onSlots}
+use Rattle.lines.specs.Code.{Ends}
 use Rattle.runs.specs.declared.Run.{Run}
 use Rattle.pieces.specs.Feed.{finish}
 use Rattle.runs.specs.Code.{Kept}

@@ -11,9 +11,10 @@ use Rattle.definition.specs.Words.{_≤?_, _=?_}
 use Rattle.definition.specs.Bytes.{newline}
 use Rattle.slots.specs.View.{SlotPool}
 use Rattle.big_endian.specs.Laws.{tail-more}
-use Rattle.lines.specs.Machine.{lineRoom}
-use Rattle.lines.specs.OnSlots.{Play, lineSlots, onSlots}
-use Rattle.lines.specs.Code.{playOf, Able, Lined}
+use Rattle.first_line.specs.Took.{lineRoom}
+use Rattle.first_line.specs.OnSlots.{Play}
+use Rattle.first_line.specs.Code.{playOf, Able, Lined}
+use Rattle.lines.specs.OnSlots.{lineSlots, onSlots}
 use Rattle.newlines.specs.Newlines.{lineLen, len-positive, piece-ends}
 use Rattle.runs.specs.declared.Run.{Run}
 use Rattle.pieces.specs.Feed.{View, Fed, stop, joined, joined-joined, goOn}

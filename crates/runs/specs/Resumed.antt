@@ -5,8 +5,9 @@ use Prim.Native.Nat.{ℕ, _-_, _≤_, _<_}
 use native.Mathlib.Omega.{arith}
 use lib.ListN.{length, drop, length-drop}
 use Rattle.slots.specs.View.{SlotPool}
-use Rattle.lines.specs.Machine.{lineRoom}
-use Rattle.lines.specs.OnSlots.{Play, onSlots}
+use Rattle.first_line.specs.Took.{lineRoom}
+use Rattle.first_line.specs.OnSlots.{Play}
+use Rattle.lines.specs.OnSlots.{onSlots}
 use Rattle.runs.specs.declared.Run.{Run}
 use Rattle.pieces.specs.Feed.{View, goOn}
 use Rattle.pieces.specs.Chunks.{some-less}

@@ -6,9 +6,10 @@ use lib.ListN.{length, drop, replicate}
 use Rattle.definition.specs.Refusals.{enoughRoom}
 use Rattle.slots.specs.View.{SlotPool, poolOf}
 use Rattle.refinement.specs.Alike.{freshSlots}
-use Rattle.lines.specs.declared.Phase.the-variants.{First}
-use Rattle.lines.specs.Machine.{Took, lineRoom}
-use Rattle.lines.specs.OnSlots.{Play, onSlots}
+use Rattle.first_line.specs.declared.Phase.the-variants.{First}
+use Rattle.first_line.specs.Took.{Took, lineRoom}
+use Rattle.first_line.specs.OnSlots.{Play}
+use Rattle.lines.specs.OnSlots.{onSlots}
 use Rattle.pieces.specs.Feed.{View, emptied, goOn}
 use Rattle.runs.specs.Code.{viewOf, noOptions, Kept, Read}
 use Rattle.session.specs.declared.Session.{Session}

@@ -8,9 +8,10 @@ use Rattle.definition.specs.Refusals.{enoughRoom}
 use Rattle.slots.specs.View.{SlotPool}
 use Rattle.refinement.specs.Alike.{freshHead, freshSlots}
 use Rattle.refinement.specs.Formed.{overBlank, fresh-parts}
-use Rattle.lines.specs.Machine.{Took}
-use Rattle.lines.specs.OnSlots.{Play, onSlots}
-use Rattle.lines.specs.Code.{Lined}
+use Rattle.first_line.specs.Took.{Took}
+use Rattle.first_line.specs.OnSlots.{Play}
+use Rattle.first_line.specs.Code.{Lined}
+use Rattle.lines.specs.OnSlots.{onSlots}
 use Rattle.pieces.specs.Feed.{emptied, goOn}
 use Rattle.runs.specs.declared.Run.{Run}
 use Rattle.runs.specs.Code.{viewOf, beginRun, noOptions, Read}

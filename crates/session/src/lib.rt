@@ -1,7 +1,7 @@
 // A day under way, in one value: begun, fed with text in pieces of any cut, and finished.
 ghost use Prim.Native.Nat.{_≤_};
 ghost use lib.ListN.{length};
-ghost use Rattle.lines.specs.Machine.{lineRoom};
+ghost use Rattle.first_line.specs.Took.{lineRoom};
 ghost use Rattle.lines.specs.OnSlots.{onSlots};
 ghost use Rattle.pieces.specs.Feed.{finish};
 ghost use Rattle.session.specs.Code.{viewIn, Ready, Begins, Went, Finishes};

@@ -1,19 +1,18 @@
 -- One law for each exit: what the code knows there gives the answer of the tests.
 use mathlib.Core.Path.{_≡_, sym, ap, _∙_}
-use mathlib.Core.Bool.{Bool, true, false}
+use mathlib.Core.Bool.{Bool}
 use mathlib.Core.List.{List}
 use Prim.Native.Nat.{ℕ, _%_, _≤_, _<_}
 use native.Mathlib.Omega.{arith}
 use lib.ListN.{length, getD, List·getD-eq-default}
 use borrow.Author.Tests.{le-leb, lt-leb, lt-ltb, le-ltb}
 use Rattle.definition.specs.Words.{if_then_else_}
-use Rattle.definition.specs.Pool.{slotCount, isClosed}
-use Rattle.definition.specs.Steps.{kindNo}
-use Rattle.definition.specs.Refusals.{first, takenAfterClose}
+use Rattle.definition.specs.Pool.{slotCount}
+use Rattle.definition.specs.Refusals.{first}
 use Rattle.definition.specs.declared.Event.{Event}
 use Rattle.definition.specs.declared.Event.the-variants.{CheckOut, WarmPool, Abandon, CheckIn, Succeeded, SucceededForPool, Failed, Pin, ReturnToPinner, TakeFromPinner}
 use Rattle.definition.specs.declared.Refusal.{Refusal}
-use Rattle.definition.specs.declared.Refusal.the-variants.{ClockBack, AfterClose, NumbersSpent, WrongState, WrongTime, NotWaiting}
+use Rattle.definition.specs.declared.Refusal.the-variants.{WrongState, WrongTime, NotWaiting}
 use Rattle.slots.specs.Call.{slotOf, stateOf, timeOf, waiterOf?, kindTests, orAccept, noTarget, target, tests, verdict}
 use Rattle.slots.specs.Order.{placeOf, slotHolding}
 use Rattle.slots.specs.Parts.{slots-at}
@@ -21,11 +20,13 @@ use Rattle.slots.specs.View.{SlotPool, Slot, vacant, idsIn, slotsOf}
 use Rattle.slots.specs.declared.Status.{Status}
 use Rattle.slots.specs.declared.Verdict.{Verdict}
 use Rattle.slots.specs.declared.Verdict.the-variants.{Refuse, Accept}
-use Rattle.verdict.specs.Look.{Looks, takenAfter, spent, commonTests, commonVerdict, requestList, abandonList, stateList, timeList, pinList, kindVerdict}
-use Rattle.verdict.specs.Laws.{one-state, clear-no, first-of, first-by, common-refused, common-passed}
+use Rattle.common_tests.specs.Tests.{commonTests, commonVerdict}
+use Rattle.common_tests.specs.Laws.{common-refused, common-passed}
+use Rattle.common_tests.specs.declared.Common.{Common}
+use Rattle.common_tests.specs.declared.Common.the-variants.{Refuse, Pass}
+use Rattle.verdict.specs.Look.{Looks, requestList, abandonList, stateList, timeList, pinList, kindVerdict}
+use Rattle.verdict.specs.Laws.{one-state, first-of, first-by}
 use Rattle.verdict.specs.declared.Found.{Found}
-use Rattle.verdict.specs.declared.Common.{Common}
-use Rattle.verdict.specs.declared.Common.the-variants.{Refuse, Pass}
 
 -- ── A lookup ───────────────────────────────────────────────────────────────────────────────────────────────────────────
 
@@ -44,40 +45,8 @@ module _ (numbers times states : List ℕ) (id : ℕ) {i : ℕ} (w : length (slo
       let s = List·getD-eq-default (slotsOf numbers times states) vacant {n = i} (omega (arith, w)) in
       record { at = e; state = sym (ap (λ (x : Slot). x .state) s); time = sym (ap (λ (x : Slot). x .time) s) }
 
--- ── The tests that every kind shares ───────────────────────────────────────────────────────────────────────────────────
+-- ── The verdict, by what the shared tests say ──────────────────────────────────────────────────────────────────────────
 
-module _ (clock nextId : ℕ) (m : Status) (now : ℕ) (e : Event) where
-  pub common-back : now < clock → Refuse ClockBack ≡ commonVerdict clock nextId m now e
-  unfolding commonVerdict first if_then_else_
-  common-back h = rw (lt-ltb now clock h)
-
-  -- k is the number of the event's kind, b the answer whether the pool is closed, t that of the next test
-  module _ (h : clock ≤ now) {k : ℕ} (kind : k ≡ kindNo e) {b : Bool} (closed : b ≡ isClosed (m .state)) {t : Bool} where
-    pub common-taken : b ≡ true → t ≡ takenAfter k → t ≡ true → Pass ≡ commonVerdict clock nextId m now e
-    unfolding commonVerdict first if_then_else_
-    common-taken shut answer holds =
-        let taken : takenAfterClose e ≡ true = rw (← kind) (sym answer ∙ holds) in
-        rw (le-ltb now clock h, ← closed, shut, taken, clear-no e taken)
-
-    pub common-closed : b ≡ true → t ≡ takenAfter k → t ≡ false → Refuse AfterClose ≡ commonVerdict clock nextId m now e
-    unfolding commonVerdict first if_then_else_
-    common-closed shut answer fails =
-        let taken : takenAfterClose e ≡ false = rw (← kind) (sym answer ∙ fails) in
-        rw (le-ltb now clock h, ← closed, shut, taken)
-
-    pub common-spent : b ≡ false → t ≡ spent k (m .generation) nextId → t ≡ true → Refuse NumbersSpent ≡ commonVerdict clock nextId m now e
-    unfolding commonVerdict first if_then_else_
-    common-spent unshut answer holds =
-        let out : spent (kindNo e) (m .generation) nextId ≡ true = rw (← kind) (sym answer ∙ holds) in
-        rw (le-ltb now clock h, ← closed, unshut, out)
-
-    pub common-open : b ≡ false → t ≡ spent k (m .generation) nextId → t ≡ false → Pass ≡ commonVerdict clock nextId m now e
-    unfolding commonVerdict first if_then_else_
-    common-open unshut answer fails =
-        let out : spent (kindNo e) (m .generation) nextId ≡ false = rw (← kind) (sym answer ∙ fails) in
-        rw (le-ltb now clock h, ← closed, unshut, out)
-
--- the verdict, by what the shared tests say
 module _ (p : SlotPool) (e : Event) (now : ℕ) (m : Status) (s : m .state ≡ p .state) (g : m .generation ≡ p .generation)
     {o : Common} (c : o ≡ commonVerdict (p .clock) (p .nextId) m now e) where
   pub verdict-by : {r : Refusal} → o ≡ Refuse r → Refuse r ≡ verdict p e now

@@ -1,19 +1,15 @@
--- What the exits rest on: states as ranges, the kinds that a closed pool takes, and tests in two groups.
-use mathlib.Core.Path.{_≡_, refl, sym, ap, _∙_}
-use mathlib.Core.Bool.{Bool, true, false, true≢false, false≢true, _&&_}
+-- What the exits rest on: states as ranges, and tests in two groups.
+use mathlib.Core.Path.{_≡_, refl, sym, _∙_}
+use mathlib.Core.Bool.{Bool, true, false, true≢false, _&&_}
 use mathlib.Core.List.{List, [], _∷_}
-use mathlib.Core.Option.{Option, none, some}
+use mathlib.Core.Option.{none, some}
 use Prim.Native.Nat.{ℕ, _≤_}
 use native.Mathlib.Omega.{arith}
 use borrow.Author.Tests.{le-leb, eq-eqb, leb-true, leb-false, eqb-true}
 use Rattle.definition.specs.Words.{if_then_else_, _≤?_, _=?_}
-use Rattle.definition.specs.Steps.{kindNo, _to_holds_}
-use Rattle.definition.specs.Refusals.{Test, _if_, first, takenAfterClose}
-use Rattle.definition.specs.declared.Event.{Event}
-use Rattle.definition.specs.declared.Event.the-variants.{CheckOut, WarmPool, Abandon, CheckIn, Clear, MarkAsReady, Succeeded, SucceededForPool, Failed, Maintenance, FillPool, Pin, ReturnToPinner, TakeFromPinner, Close}
+use Rattle.definition.specs.Steps.{_to_holds_}
+use Rattle.definition.specs.Refusals.{Test, _if_, first}
 use Rattle.definition.specs.declared.Refusal.{Refusal}
-use Rattle.verdict.specs.Look.{commonOf}
-use Rattle.verdict.specs.declared.Common.the-variants.{Refuse, Pass}
 
 -- one state, as a range
 pub one-state : (k s : ℕ) → (s =? k) ≡ (k to k holds s)
@@ -41,24 +37,6 @@ not-pinned s a b = go (3 ≤? s) refl (s ≤? 4) refl
     go true p false q = refl
     go false p y q = refl
 
--- a clear is not among the kinds that a closed pool takes
-pub clear-no : (e : Event) → takenAfterClose e ≡ true → (kindNo e =? 5) ≡ false
-clear-no (CheckOut n) h = refl
-clear-no (WarmPool n) h = refl
-clear-no (Abandon n) h = refl
-clear-no (CheckIn n er ex t) h = refl
-clear-no (Clear t c) h = absurd (false≢true h)
-clear-no MarkAsReady h = refl
-clear-no (Succeeded n) h = refl
-clear-no (SucceededForPool n t) h = refl
-clear-no (Failed n) h = refl
-clear-no Maintenance h = refl
-clear-no FillPool h = refl
-clear-no (Pin n) h = refl
-clear-no (ReturnToPinner n) h = refl
-clear-no (TakeFromPinner n) h = refl
-clear-no Close h = refl
-
 -- tests in two groups: the first of the first group, or else of the second
 pub first-of : (a b c : Test) (ts : List Test) → (first (a ∷ b ∷ c ∷ []) ≡ none → first (a ∷ b ∷ c ∷ ts) ≡ first ts)
 unfolding first if_then_else_
@@ -73,11 +51,3 @@ first-by (x if true) b c ts r h = h
 first-by (x if false) (y if true) c ts r h = h
 first-by (x if false) (y if false) (w if true) ts r h = h
 first-by (x if false) (y if false) (w if false) ts r h = let z : _≡_ {A = ℕ} 0 1 = cc in absurd (omega arith)
-
-pub common-refused : (o : Option Refusal) (r : Refusal) → commonOf o ≡ Refuse r → o ≡ some r
-common-refused none r h = let z : _≡_ {A = ℕ} 0 1 = cc in absurd (omega arith)
-common-refused (some s) r h = let z : s ≡ r = cc in ap some z
-
-pub common-passed : (o : Option Refusal) → commonOf o ≡ Pass → o ≡ none
-common-passed none h = refl
-common-passed (some s) h = let z : _≡_ {A = ℕ} 0 1 = cc in absurd (omega arith)

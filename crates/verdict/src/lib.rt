@@ -3,21 +3,19 @@ ghost use mathlib.Core.Path.{_≡_};
 ghost use Prim.Native.Nat.{_≤_};
 ghost use lib.ListN.{length};
 ghost use Rattle.definition.specs.Pool.{slotCount, queueLength};
-ghost use Rattle.definition.specs.Steps.{kindNo};
 ghost use Rattle.definition.specs.Refusals.{first};
 ghost use Rattle.slots.specs.Order.{placeOf};
 ghost use Rattle.slots.specs.View.{idsIn, slotsOf, given, before, Whole};
 ghost use Rattle.slots.specs.Call.{orAccept, noTarget, verdict};
-ghost use Rattle.verdict.specs.Look.{Looks, takenAfter, spent, commonVerdict, requestList, abandonList, stateList, timeList, pinList, kindVerdict};
+ghost use Rattle.verdict.specs.Look.{Looks, requestList, abandonList, stateList, timeList, pinList, kindVerdict};
+use common_tests::Common;
 use definition::Event;
-use definition::LAST_NEXT_ID;
 use definition::QUEUE;
 use definition::Refusal;
 use definition::SLOTS;
 use slots::Head;
 use slots::Numbers;
 use slots::States;
-use slots::Status;
 use slots::Times;
 use slots::Verdict;
 use slots::Waiters;
@@ -25,98 +23,11 @@ use slots::Waiters;
 // What an event is accepted with that names neither a slot nor a waiter.
 const NO_TARGET: usize = 0;
 
-// A clear goes to the next generation; there is none behind this one.
-const LAST_GENERATION: u32 = 4294967295;
-
 // The slot of an id, the count of slots where it has none, and what stands there.
 pub struct Found {
     pub at: usize,
     pub state: u8,
     pub time: u64,
-}
-
-// What the tests that every kind shares say.
-pub enum Common {
-    Refuse(Refusal),
-    Pass,
-}
-
-pub fn kind_no(e: Event) -> u8
-    ensures { λ r. ⌜ r ≡ kindNo e ⌝ }
-{
-    match e {
-        Event::CheckOut(_) => 1,
-        Event::WarmPool(_) => 2,
-        Event::Abandon(_) => 3,
-        Event::CheckIn(_, _, _, _) => 4,
-        Event::Clear(_, _) => 5,
-        Event::MarkAsReady => 6,
-        Event::Succeeded(_) => 7,
-        Event::SucceededForPool(_, _) => 8,
-        Event::Failed(_) => 9,
-        Event::Maintenance => 10,
-        Event::FillPool => 11,
-        Event::Pin(_) => 12,
-        Event::ReturnToPinner(_) => 13,
-        Event::TakeFromPinner(_) => 14,
-        Event::Close => 15,
-    }
-}
-
-// A closed pool still takes kinds 4, 7 to 9 and 12 to 14.
-fn taken_after_close(kind: u8) -> bool
-    ensures { λ r. ⌜ r ≡ takenAfter kind ⌝ }
-{
-    if kind == 4 {
-        return true;
-    }
-    if kind < 7 {
-        return false;
-    }
-    if kind <= 9 {
-        return true;
-    }
-    if kind < 12 {
-        return false;
-    }
-    kind <= 14
-}
-
-// 5, of an open pool.
-fn numbers_spent(kind: u8, generation: u32, next_id: u32) -> bool
-    ensures { λ r. ⌜ r ≡ spent kind generation «next_id» ⌝ }
-{
-    if kind == 15 {
-        return false;
-    }
-    if LAST_NEXT_ID < next_id {
-        return true;
-    }
-    if kind == 5 {
-        return generation == LAST_GENERATION;
-    }
-    false
-}
-
-// 3, 4 and 5.
-pub fn common_verdict(clock: u64, next_id: u32, m: Status, time: u64, e: Event) -> Common
-    ensures { λ r. ⌜ r ≡ commonVerdict clock «next_id» m time e ⌝ }
-{
-    if time < clock {
-        return Common::Refuse(Refusal::ClockBack);
-    }
-    let kind = kind_no(e);
-    let st = m.state;
-    if conditions::is_closed(st) {
-        if taken_after_close(kind) {
-            return Common::Pass;
-        }
-        return Common::Refuse(Refusal::AfterClose);
-    }
-    if numbers_spent(kind, m.generation, next_id) {
-        return Common::Refuse(Refusal::NumbersSpent);
-    }
-    Common::Pass
 }
 
 pub fn look(numbers: &Numbers, times: &Times, states: &States, id: u32) -> Found
@@ -285,7 +196,7 @@ pub fn verdict(
     ensures { λ r. ⌜ r ≡ verdict (before head numbers times states waiters) e time ⌝ }
 {
     let m = head.status;
-    match common_verdict(head.clock, head.next_connection_id, m, time, e) {
+    match common_tests::common_verdict(head.clock, head.next_connection_id, m, time, e) {
         Common::Refuse(r) => Verdict::Refuse(r),
         Common::Pass => kind_verdict(head, numbers, times, states, waiters, e, time),
     }

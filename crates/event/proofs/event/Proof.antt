@@ -11,7 +11,7 @@ use Rattle.event.proofs.event.Lts as lts
 use Rattle.event.proofs.is_serviced.Reads as is-serviced-reads
 use Rattle.dispatch.proofs.handle.Reads as handle-reads
 use Rattle.checkout.proofs.service.Reads as service-reads
-use Rattle.verdict.proofs.kind_no.Reads as kind-no-reads
+use Rattle.common_tests.proofs.kind_no.Reads as kind-no-reads
 
 -- the pool that is lent
 abbrev lent : tie.Start → SlotPool

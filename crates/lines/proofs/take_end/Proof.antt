@@ -5,7 +5,7 @@ use Rattle.lines.proofs.take_end.Statement.{statement}
 use Rattle.lines.proofs.take_end.Tie as tie
 use Rattle.lines.proofs.take_end.Reads as reads
 use Rattle.lines.proofs.take_end.Lts as lts
-use Rattle.lines.proofs.bad_options.Reads as bad-options-reads
+use Rattle.first_line.proofs.bad_options.Reads as bad-options-reads
 
 enum-told : tie.Need-enum-told
 enum-told c = search needs

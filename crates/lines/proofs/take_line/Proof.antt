@@ -1,16 +1,16 @@
 use mathlib.Core.Path.{subst}
 use denote.Ref.{now}
 use Rattle.slots.specs.View.{SlotPool, given, poolOf}
-use Rattle.lines.specs.declared.Phase.{Phase}
-use Rattle.lines.specs.Code.{Able}
+use Rattle.first_line.specs.declared.Phase.{Phase}
+use Rattle.first_line.specs.Code.{Able}
 use Rattle.lines.specs.Exits.{line-first, line-going, line-spent, line-ended}
 use borrow.Author.Needs.{needs}
 use Rattle.lines.proofs.take_line.Statement.{statement}
 use Rattle.lines.proofs.take_line.Tie as tie
 use Rattle.lines.proofs.take_line.Reads as reads
 use Rattle.lines.proofs.take_line.Lts as lts
-use Rattle.lines.proofs.take_first.Reads as take-first-reads
-use Rattle.lines.proofs.take_frame.Reads as take-frame-reads
+use Rattle.first_line.proofs.take_first.Reads as take-first-reads
+use Rattle.frame_lines.proofs.take_frame.Reads as take-frame-reads
 
 abbrev pool : tie.Start → SlotPool
 pool s = let a = s .args in given (a .head) (a .numbers) (a .times) (a .states) (a .waiters)

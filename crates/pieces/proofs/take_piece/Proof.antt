@@ -4,8 +4,8 @@ use borrow.Author.Tests.{eq-eqb, ne-eqb}
 use denote.Ref.{now}
 use lib.ListN.{length-take, take}
 use Rattle.slots.specs.View.{given, poolOf}
-use Rattle.lines.specs.OnSlots.{Play}
-use Rattle.lines.specs.Code.{playOf}
+use Rattle.first_line.specs.OnSlots.{Play}
+use Rattle.first_line.specs.Code.{playOf}
 use Rattle.newlines.specs.Newlines.{ends-last}
 use Rattle.pieces.specs.Code.{Holds}
 use Rattle.pieces.specs.Held.{held-more, held-take, piece-line, piece-held}

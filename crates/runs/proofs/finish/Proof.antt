@@ -2,7 +2,7 @@ use native.Mathlib.Omega.{arith}
 use denote.Ref.{now}
 use lib.ListN.{length-take}
 use Rattle.slots.specs.View.{SlotPool, given, poolOf}
-use Rattle.lines.specs.Code.{playOf}
+use Rattle.first_line.specs.Code.{playOf}
 use Rattle.runs.specs.Finish.{end-none, end-line}
 use borrow.Author.Needs.{needs}
 use Rattle.runs.proofs.finish.Statement.{statement}

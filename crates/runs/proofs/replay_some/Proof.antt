@@ -5,8 +5,8 @@ use native.Mathlib.Omega.{arith}
 use denote.Ref.{now}
 use lib.ListN.{length, length-take, length-drop}
 use Rattle.slots.specs.View.{given, poolOf}
-use Rattle.lines.specs.OnSlots.{Play}
-use Rattle.lines.specs.Code.{playOf}
+use Rattle.first_line.specs.OnSlots.{Play}
+use Rattle.first_line.specs.Code.{playOf}
 use Rattle.pieces.specs.Feed.{View}
 use Rattle.pieces.specs.Code.{heldOf}
 use Rattle.runs.specs.Code.{viewOf}

@@ -1,8 +1,9 @@
 use native.Mathlib.Omega.{arith}
 use denote.Ref.{now}
 use Rattle.slots.specs.View.{poolOf}
-use Rattle.lines.specs.OnSlots.{Play, onSlots}
-use Rattle.lines.specs.Code.{playOf}
+use Rattle.first_line.specs.OnSlots.{Play}
+use Rattle.first_line.specs.Code.{playOf}
+use Rattle.lines.specs.OnSlots.{onSlots}
 use Rattle.pieces.specs.Feed.{finish}
 use Rattle.session.specs.Code.{viewIn}
 use Rattle.session.specs.Exits.{finishes}

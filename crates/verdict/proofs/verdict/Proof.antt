@@ -7,7 +7,7 @@ use Rattle.verdict.proofs.verdict.Statement.{statement}
 use Rattle.verdict.proofs.verdict.Tie as tie
 use Rattle.verdict.proofs.verdict.Reads as reads
 use Rattle.verdict.proofs.verdict.Lts as lts
-use Rattle.verdict.proofs.common_verdict.Reads as common-verdict-reads
+use Rattle.common_tests.proofs.common_verdict.Reads as common-verdict-reads
 use Rattle.verdict.proofs.kind_verdict.Reads as kind-verdict-reads
 
 -- the pool that is looked at

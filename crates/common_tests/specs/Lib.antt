@@ -1,0 +1,3 @@
+pub mod Tests
+pub mod Laws
+pub mod Exits

@@ -1,0 +1,4 @@
+pub mod Took
+pub mod OnSlots
+pub mod Code
+pub mod Exits

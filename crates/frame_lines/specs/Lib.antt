@@ -1,0 +1,3 @@
+pub mod OnSlots
+pub mod Code
+pub mod Exits

@@ -77,8 +77,8 @@ fn say(words: &[u8]) {
 }
 
 fn play(is_entry: bool, options: Options) {
-    let o = pool::with_defaults(options);
-    if !pool::in_range(o) {
+    let o = options::with_defaults(options);
+    if !options::in_range(o) {
         if is_entry {
             say(b"no options\n");
             return;

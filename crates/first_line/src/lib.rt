@@ -75,8 +75,8 @@ pub fn take_first(
 {
     match reading::line_options(line) {
         Given::Options(p) => {
-            let options = pool::with_defaults(p);
-            if pool::in_range(options) {
+            let options = options::with_defaults(p);
+            if options::in_range(options) {
                 *numbers = [0; 2 * SLOTS];
                 *times = [0; SLOTS];
                 *states = [0; 2 * SLOTS];

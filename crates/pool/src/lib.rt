@@ -1,7 +1,6 @@
 // The pool as a value: its type, its making and its counts.
 ghost use mathlib.Core.Path.{_≡_};
 ghost use Prim.Native.Nat.{_-_};
-ghost use Rattle.definition.specs.Pool.{orDefault, withDefaults, inRange};
 ghost use Rattle.definition.specs.Bytes.{optionsOf};
 ghost use Rattle.refinement.specs.Alike.{freshHead};
 ghost use Rattle.pool.specs.Making.{freshPool, notMade, making, makingFrom, countsOf};
@@ -16,7 +15,6 @@ use slots::Head;
 use slots::Outcome;
 use slots::Status;
 use slots::Waiters;
-use words::both;
 
 pub struct Slot {
     pub id: u32,
@@ -46,40 +44,6 @@ pub struct Counts {
 }
 
 // ── making a pool ──
-
-fn or_default(default: u32, n: u32) -> u32
-    ensures { λ r. ⌜ r ≡ orDefault default n ⌝ }
-{
-    if n == 0 {
-        return default;
-    }
-    n
-}
-
-pub fn with_defaults(o: Options) -> Options
-    ensures { λ r. ⌜ r ≡ withDefaults o ⌝ }
-{
-    Options {
-        maximum: or_default(Pool::DEFAULT_MAX_POOL_SIZE, o.maximum),
-        minimum: o.minimum,
-        connecting: or_default(Pool::DEFAULT_MAX_CONNECTING, o.connecting),
-        idle: o.idle,
-    }
-}
-
-const MOST: u32 = SLOTS as u32;
-
-pub fn in_range(o: Options) -> bool
-    ensures { λ r. ⌜ r ≡ inRange o ⌝ }
-{
-    let a = o.maximum;
-    let b = o.minimum;
-    let c = o.connecting;
-    both(
-        both(both(both(1 <= a, a <= MOST), b <= a), 1 <= c),
-        c <= MOST,
-    )
-}
 
 // Of a pool in which nothing has happened, all of whose cells are 0.
 pub fn fresh_head(o: Options) -> Head
@@ -147,15 +111,11 @@ fn minus(a: usize, b: usize) -> usize
 }
 
 impl Pool {
-    pub const DEFAULT_MAX_POOL_SIZE: u32 = 10;
-
-    pub const DEFAULT_MAX_CONNECTING: u32 = 2;
-
     pub fn new(options: Options) -> Made
         ensures { λ r. ⌜ r ≡ making options ⌝ }
     {
-        let o = with_defaults(options);
-        if in_range(o) {
+        let o = options::with_defaults(options);
+        if options::in_range(o) {
             let p = fresh(o);
             return Made {
                 outcome: Outcome::Accepted(0),

@@ -273,7 +273,7 @@ pub fn keeps_rules(
     let next = head.next_connection_id;
     let n = head.available_count;
     let w = head.waiting_count;
-    let options = both(pool::in_range(o), next <= MOST_NEXT_ID);
+    let options = both(options::in_range(o), next <= MOST_NEXT_ID);
     let below = ids_below(numbers, next);
     let distinct = ids_distinct(numbers);
     let fit = slots_fit(numbers, times, states);

@@ -8,8 +8,8 @@ use Rattle.bench.proofs.all.Reads as all-reads
 use Rattle.bench.proofs.say.Reads as say-reads
 use Rattle.pool.proofs.Pool.new.Reads as new-reads
 use Rattle.pool.proofs.fresh_head.Reads as fresh-head-reads
-use Rattle.pool.proofs.in_range.Reads as in-range-reads
-use Rattle.pool.proofs.with_defaults.Reads as with-defaults-reads
+use Rattle.options.proofs.in_range.Reads as in-range-reads
+use Rattle.options.proofs.with_defaults.Reads as with-defaults-reads
 use Rattle.tally.proofs.tell.Reads as tell-reads
 
 with-defaults-requires : tie.Need-with-defaults-requires

@@ -18,8 +18,8 @@ use Rattle.first_line.proofs.take_first.Reads as reads
 use Rattle.first_line.proofs.take_first.Lts as lts
 use Rattle.first_line.proofs.bad_options.Reads as bad-options-reads
 use Rattle.pool.proofs.fresh_head.Reads as fresh-head-reads
-use Rattle.pool.proofs.in_range.Reads as in-range-reads
-use Rattle.pool.proofs.with_defaults.Reads as with-defaults-reads
+use Rattle.options.proofs.in_range.Reads as in-range-reads
+use Rattle.options.proofs.with_defaults.Reads as with-defaults-reads
 use Rattle.reading.proofs.line_options.Reads as line-options-reads
 
 abbrev start : tie.After-in-range → tie.Start

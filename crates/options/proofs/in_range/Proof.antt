@@ -1,7 +1,7 @@
 use Rattle.definition.specs.Pool.{inRange}
 use borrow.Author.Needs.{needs}
-use Rattle.pool.proofs.in_range.Statement.{statement}
-use Rattle.pool.proofs.in_range.Tie as tie
+use Rattle.options.proofs.in_range.Statement.{statement}
+use Rattle.options.proofs.in_range.Tie as tie
 
 both-requires : tie.Need-both-requires
 both-requires c κs = search needs

@@ -1,8 +1,8 @@
 use borrow.Author.Tests.{eq-eqb, ne-eqb}
 use borrow.Author.Needs.{needs}
 use Rattle.definition.specs.Words.{if_then_else_}
-use Rattle.pool.proofs.or_default.Statement.{statement}
-use Rattle.pool.proofs.or_default.Tie as tie
+use Rattle.options.proofs.or_default.Statement.{statement}
+use Rattle.options.proofs.or_default.Tie as tie
 
 returns : tie.Need-returns
 unfolding if_then_else_

@@ -1,6 +1,6 @@
 use borrow.Author.Needs.{needs}
-use Rattle.pool.proofs.with_defaults.Statement.{statement}
-use Rattle.pool.proofs.with_defaults.Tie as tie
+use Rattle.options.proofs.with_defaults.Statement.{statement}
+use Rattle.options.proofs.with_defaults.Tie as tie
 
 or-default-requires : tie.Need-or-default-requires
 or-default-requires c κs = search needs

@@ -68,7 +68,7 @@ fn show(o: Outcome, out: &[u8]) {
     match o {
         Outcome::Refused(r) => {
             say(b"refused ");
-            number(printing::refusal_number(r) as u64);
+            number(refusals::refusal_number(r) as u64);
         }
         Outcome::Accepted(n) => {
             records(out, n as usize);

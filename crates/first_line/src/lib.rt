@@ -55,7 +55,7 @@ pub fn bad_options(pace: Pace, refusal: Refusal, out: &mut [u8]) -> Pace
     requires { ⌜ logLineLength ≤ length (now out) ⌝ }
     ensures { λ r. ⌜ (r ≡ endedPace pace) × (now (out .exit) ≡ refusedLine refusal 1 ++ drop logLineLength (now (out .entry))) ⌝ }
 {
-    printing::print_refusal(refusal, 1, out);
+    refusals::print_refusal(refusal, 1, out);
     ended(pace)
 }
 

@@ -37,7 +37,7 @@ fn say(answer: Outcome, used: u64, scratch: &[u8], out: &mut [u8]) -> usize
 {
     match answer {
         Outcome::Refused(refusal) => {
-            printing::print_refusal(refusal, line_number(used), out);
+            refusals::print_refusal(refusal, line_number(used), out);
             LINE
         }
         Outcome::Accepted(count) => {

@@ -6,8 +6,7 @@ use native.Mathlib.Numerals.{add-one}
 use native.Mathlib.Omega.{arith}
 use lib.ListN.{length, take, drop, getD, set, length-append, length-take, length-drop, length-set}
 use lib.Seq.{drop-cons, take-suc, set-at, append-snoc, take-all}
-use Rattle.definition.specs.Records.{fields}
-use Rattle.definition.specs.Bytes.{digitOf, hexOf, recordBytes, lineOf}
+use Rattle.definition.specs.Bytes.{digitOf, hexOf, lineOf}
 use Rattle.definition.specs.HexLaws.{length-hexOf}
 use Rattle.big_endian.specs.Laws.{tail-more}
 use Rattle.printing.specs.Printed.{printed, printed-more, length-printed}
@@ -101,9 +100,3 @@ module _ (s o₀ o : List ℕ) (n i : ℕ) (e : Printing s o₀ o n i) where
 
   pub printing-end : n ≤ i → o ≡ printed n s ++ drop (33 * n) o₀
   printing-end h = let d : i ≡ n = omega (arith, e .low) in e .front ∙ rw d
-
--- ── A refusal ──
-
-pub refusal-laid : (number n line : ℕ) (b o x : List ℕ) → number ≡ n → b ≡ recordBytes 0 (fields 32 number line 0) → x ≡ lineOf b ++ drop 33 o
-    → x ≡ lineOf (recordBytes 0 (fields 32 n line 0)) ++ drop 33 o
-refusal-laid number n line b o x e f g = g ∙ rw (f, e)

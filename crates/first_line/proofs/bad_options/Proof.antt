@@ -5,7 +5,7 @@ use Rattle.first_line.proofs.bad_options.Tie as tie
 use Rattle.first_line.proofs.bad_options.Reads as reads
 use Rattle.first_line.proofs.bad_options.Lts as lts
 use Rattle.first_line.proofs.ended.Reads as ended-reads
-use Rattle.printing.proofs.print_refusal.Reads as print-refusal-reads
+use Rattle.refusals.proofs.print_refusal.Reads as print-refusal-reads
 
 print-refusal-requires : tie.Need-print-refusal-requires
 print-refusal-requires c κs = search needs

@@ -10,7 +10,7 @@ use Rattle.frame_lines.proofs.say.Reads as reads
 use Rattle.frame_lines.proofs.say.Lts as lts
 use Rattle.frame_lines.proofs.line_number.Reads as line-number-reads
 use Rattle.printing.proofs.print_records.Reads as print-records-reads
-use Rattle.printing.proofs.print_refusal.Reads as print-refusal-reads
+use Rattle.refusals.proofs.print_refusal.Reads as print-refusal-reads
 
 enum-known-answer : tie.Need-enum-known-answer
 enum-known-answer c = search needs

@@ -1,7 +1,7 @@
 use Rattle.definition.specs.Bytes.{recordBytes}
 use borrow.Author.Needs.{needs}
-use Rattle.printing.proofs.refusal_record.Statement.{statement}
-use Rattle.printing.proofs.refusal_record.Tie as tie
+use Rattle.refusals.proofs.refusal_record.Statement.{statement}
+use Rattle.refusals.proofs.refusal_record.Tie as tie
 
 array-write-b : tie.Need-array-write-b
 array-write-b c = search needs

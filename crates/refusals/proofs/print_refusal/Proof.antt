@@ -1,9 +1,9 @@
 use denote.Ref.{now}
 use Rattle.definition.specs.Refusals.{refusalNo}
-use Rattle.printing.proofs.Laws.{refusal-laid}
+use Rattle.refusals.proofs.Laws.{refusal-laid}
 use borrow.Author.Needs.{needs}
-use Rattle.printing.proofs.print_refusal.Statement.{statement}
-use Rattle.printing.proofs.print_refusal.Tie as tie
+use Rattle.refusals.proofs.print_refusal.Statement.{statement}
+use Rattle.refusals.proofs.print_refusal.Tie as tie
 
 refusal-number-requires : tie.Need-refusal-number-requires
 refusal-number-requires c κs = search needs

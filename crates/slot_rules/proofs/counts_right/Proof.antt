@@ -3,11 +3,11 @@ use native.Mathlib.Omega.{arith}
 use Rattle.definition.specs.Pool.{slotCount}
 use Rattle.refinement.specs.Mirror.{isPending}
 use Rattle.refinement.specs.Rules.{isShelved}
-use Rattle.rules.specs.Tests.{isTaken}
-use Rattle.rules.proofs.Laws.{Counting, tallied-none, tallied-more, one-small, counting-end}
+use Rattle.slot_rules.specs.Tests.{isTaken}
+use Rattle.slot_rules.proofs.Laws.{Counting, tallied-none, tallied-more, one-small, counting-end}
 use borrow.Author.Needs.{needs}
-use Rattle.rules.proofs.counts_right.Statement.{statement}
-use Rattle.rules.proofs.counts_right.Tie as tie
+use Rattle.slot_rules.proofs.counts_right.Statement.{statement}
+use Rattle.slot_rules.proofs.counts_right.Tie as tie
 
 abbrev Inv-loop : tie.InvT-loop
 Inv-loop states total pending available taken₀ waits₀ shelved₀ i₀ taken waits shelved i = Counting states i taken waits shelved

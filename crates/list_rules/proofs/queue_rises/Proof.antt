@@ -1,9 +1,9 @@
 use Prim.Native.Nat.{_-_}
 use native.Mathlib.Omega.{arith}
-use Rattle.rules.proofs.Laws.{Rising, rising-start, queue-long, rising-more, rising-end}
+use Rattle.list_rules.proofs.Laws.{Rising, rising-start, queue-long, rising-more, rising-end}
 use borrow.Author.Needs.{needs}
-use Rattle.rules.proofs.queue_rises.Statement.{statement}
-use Rattle.rules.proofs.queue_rises.Tie as tie
+use Rattle.list_rules.proofs.queue_rises.Statement.{statement}
+use Rattle.list_rules.proofs.queue_rises.Tie as tie
 
 abbrev Inv-loop : tie.InvT-loop
 Inv-loop waiters n last top ok₀ before₀ i₀ ok before i = Rising waiters n last i before ok

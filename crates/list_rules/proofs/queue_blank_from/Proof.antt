@@ -2,10 +2,10 @@ use mathlib.Core.Logic.{⊎-elim}
 use Prim.Native.Nat.{_-_}
 use native.Mathlib.Omega.{arith}
 use Rattle.definition.specs.Pool.{queueLength}
-use Rattle.rules.proofs.Laws.{Blanking, blank-past, blanking-start, blanking-lost, blanking-kept, blanking-end}
+use Rattle.list_rules.proofs.Laws.{Blanking, blank-past, blanking-start, blanking-lost, blanking-kept, blanking-end}
 use borrow.Author.Needs.{needs}
-use Rattle.rules.proofs.queue_blank_from.Statement.{statement}
-use Rattle.rules.proofs.queue_blank_from.Tie as tie
+use Rattle.list_rules.proofs.queue_blank_from.Statement.{statement}
+use Rattle.list_rules.proofs.queue_blank_from.Tie as tie
 
 abbrev Inv-loop : tie.InvT-loop
 Inv-loop waiters n ok₀ i₀ ok i = Blanking queueLength n waiters i ok

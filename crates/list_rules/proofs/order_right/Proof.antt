@@ -2,10 +2,10 @@ use Prim.Native.Nat.{_-_}
 use native.Mathlib.Omega.{arith}
 use Rattle.slots.specs.View.{orderIn}
 use Rattle.definition.specs.Pool.{slotCount}
-use Rattle.rules.proofs.Laws.{Ordering, ordering-start, order-long, order-high, order-unshelved, order-met, ordering-more, ordering-end}
+use Rattle.list_rules.proofs.Laws.{Ordering, ordering-start, order-long, order-high, order-unshelved, order-met, ordering-more, ordering-end}
 use borrow.Author.Needs.{needs}
-use Rattle.rules.proofs.order_right.Statement.{statement}
-use Rattle.rules.proofs.order_right.Tie as tie
+use Rattle.list_rules.proofs.order_right.Statement.{statement}
+use Rattle.list_rules.proofs.order_right.Tie as tie
 
 abbrev Inv-loop : tie.InvT-loop
 Inv-loop states n met₀ i₀ met i = Ordering states n i met

@@ -2,11 +2,11 @@ use Prim.Native.Nat.{_-_, _+_}
 use native.Mathlib.Omega.{arith}
 use lib.ListN.{getD}
 use Rattle.definition.specs.Pool.{slotCount}
-use Rattle.rules.specs.Tests.{slotFits, slotsFit}
-use Rattle.rules.proofs.Laws.{Testing, testing-start, testing-more, testing-end}
+use Rattle.slot_rules.specs.Tests.{slotFits, slotsFit}
+use Rattle.slot_rules.proofs.Laws.{Testing, testing-start, testing-more, testing-end}
 use borrow.Author.Needs.{needs}
-use Rattle.rules.proofs.slots_fit.Statement.{statement}
-use Rattle.rules.proofs.slots_fit.Tie as tie
+use Rattle.slot_rules.proofs.slots_fit.Statement.{statement}
+use Rattle.slot_rules.proofs.slots_fit.Tie as tie
 
 abbrev Inv-loop : tie.InvT-loop
 Inv-loop numbers times states ok₀ i₀ ok i =

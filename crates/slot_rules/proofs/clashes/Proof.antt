@@ -1,7 +1,7 @@
 use borrow.Author.Tests.{eq-eqb, ne-eqb}
 use borrow.Author.Needs.{needs}
-use Rattle.rules.proofs.clashes.Statement.{statement}
-use Rattle.rules.proofs.clashes.Tie as tie
+use Rattle.slot_rules.proofs.clashes.Statement.{statement}
+use Rattle.slot_rules.proofs.clashes.Tie as tie
 
 returns : tie.Need-returns
 returns c = rw (eq-eqb _ _ (c .if1 .taken))

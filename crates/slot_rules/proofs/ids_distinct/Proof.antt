@@ -2,10 +2,10 @@ use mathlib.Core.Path.{refl}
 use Prim.Native.Nat.{_-_}
 use native.Mathlib.Omega.{arith}
 use Rattle.definition.specs.Pool.{slotCount}
-use Rattle.rules.proofs.Laws.{Marking, marking-start, marking-clash, marking-more, marking-end}
+use Rattle.slot_rules.proofs.Laws.{Marking, marking-start, marking-clash, marking-more, marking-end}
 use borrow.Author.Needs.{needs}
-use Rattle.rules.proofs.ids_distinct.Statement.{statement}
-use Rattle.rules.proofs.ids_distinct.Tie as tie
+use Rattle.slot_rules.proofs.ids_distinct.Statement.{statement}
+use Rattle.slot_rules.proofs.ids_distinct.Tie as tie
 
 abbrev Inv-loop : tie.InvT-loop
 Inv-loop numbers marks₀ i₀ marks i = Marking numbers i marks

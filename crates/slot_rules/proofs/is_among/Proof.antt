@@ -1,9 +1,9 @@
 use Prim.Native.Nat.{_-_}
 use native.Mathlib.Omega.{arith}
-use Rattle.rules.proofs.Laws.{Missing, missing-start, missing-more, missing-end, among-here}
+use Rattle.slot_rules.proofs.Laws.{Missing, missing-start, missing-more, missing-end, among-here}
 use borrow.Author.Needs.{needs}
-use Rattle.rules.proofs.is_among.Statement.{statement}
-use Rattle.rules.proofs.is_among.Tie as tie
+use Rattle.slot_rules.proofs.is_among.Statement.{statement}
+use Rattle.slot_rules.proofs.is_among.Tie as tie
 
 abbrev Inv-loop : tie.InvT-loop
 Inv-loop numbers n x i₀ i = Missing x n numbers i

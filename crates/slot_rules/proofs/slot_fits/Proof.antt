@@ -1,9 +1,9 @@
 use borrow.Author.Tests.{eq-eqb, ne-eqb}
 use Rattle.definition.specs.Words.{if_then_else_}
-use Rattle.rules.specs.Tests.{slotFits}
+use Rattle.slot_rules.specs.Tests.{slotFits}
 use borrow.Author.Needs.{needs}
-use Rattle.rules.proofs.slot_fits.Statement.{statement}
-use Rattle.rules.proofs.slot_fits.Tie as tie
+use Rattle.slot_rules.proofs.slot_fits.Statement.{statement}
+use Rattle.slot_rules.proofs.slot_fits.Tie as tie
 
 both-requires : tie.Need-both-requires
 both-requires c κs = search needs

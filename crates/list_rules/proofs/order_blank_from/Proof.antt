@@ -5,10 +5,10 @@ use native.Mathlib.Omega.{arith}
 use Rattle.slots.specs.Columns.{column-at}
 use Rattle.slots.specs.View.{orderIn}
 use Rattle.definition.specs.Pool.{slotCount}
-use Rattle.rules.proofs.Laws.{Blanking, blank-past, blanking-start, blanking-lost, blanking-kept, blanking-end}
+use Rattle.list_rules.proofs.Laws.{Blanking, blank-past, blanking-start, blanking-lost, blanking-kept, blanking-end}
 use borrow.Author.Needs.{needs}
-use Rattle.rules.proofs.order_blank_from.Statement.{statement}
-use Rattle.rules.proofs.order_blank_from.Tie as tie
+use Rattle.list_rules.proofs.order_blank_from.Statement.{statement}
+use Rattle.list_rules.proofs.order_blank_from.Tie as tie
 
 abbrev Inv-loop : tie.InvT-loop
 Inv-loop states n ok₀ i₀ ok i = Blanking slotCount n (orderIn states) i ok

@@ -3,11 +3,11 @@ use native.Mathlib.Omega.{arith}
 use lib.ListN.{getD}
 use Rattle.definition.specs.Pool.{slotCount}
 use Rattle.definition.specs.Words.{_<?_}
-use Rattle.rules.specs.Tests.{idsBelow}
-use Rattle.rules.proofs.Laws.{Testing, testing-start, testing-more, testing-end}
+use Rattle.slot_rules.specs.Tests.{idsBelow}
+use Rattle.slot_rules.proofs.Laws.{Testing, testing-start, testing-more, testing-end}
 use borrow.Author.Needs.{needs}
-use Rattle.rules.proofs.ids_below.Statement.{statement}
-use Rattle.rules.proofs.ids_below.Tie as tie
+use Rattle.slot_rules.proofs.ids_below.Statement.{statement}
+use Rattle.slot_rules.proofs.ids_below.Tie as tie
 
 abbrev Inv-loop : tie.InvT-loop
 Inv-loop numbers next ok₀ i₀ ok i = Testing slotCount (λ j. getD numbers j 0 <? next) i ok

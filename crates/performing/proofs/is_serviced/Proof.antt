@@ -3,10 +3,10 @@ use Prim.Native.Nat.{_<_, _≤_}
 use native.Mathlib.Omega.{arith}
 use borrow.Author.Tests.{le-leb, lt-leb}
 use borrow.Author.Needs.{needs}
-use Rattle.event.proofs.is_serviced.Statement.{statement}
-use Rattle.event.proofs.is_serviced.Tie as tie
-use Rattle.event.proofs.is_serviced.Reads as reads
-use Rattle.event.proofs.is_serviced.Lts as lts
+use Rattle.performing.proofs.is_serviced.Statement.{statement}
+use Rattle.performing.proofs.is_serviced.Tie as tie
+use Rattle.performing.proofs.is_serviced.Reads as reads
+use Rattle.performing.proofs.is_serviced.Lts as lts
 
 returns : tie.Need-returns
 returns c =

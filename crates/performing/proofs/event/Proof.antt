@@ -2,13 +2,13 @@ use mathlib.Core.Path.{_≡_}
 use native.Mathlib.Omega.{arith}
 use denote.Ref.{now}
 use Rattle.slots.specs.View.{SlotPool, poolOf, withClock}
-use Rattle.event.specs.Laws.{asks, serves, event-serviced, event-unserviced}
+use Rattle.performing.specs.Laws.{asks, serves, event-serviced, event-unserviced}
 use borrow.Author.Needs.{needs}
-use Rattle.event.proofs.event.Statement.{statement}
-use Rattle.event.proofs.event.Tie as tie
-use Rattle.event.proofs.event.Reads as reads
-use Rattle.event.proofs.event.Lts as lts
-use Rattle.event.proofs.is_serviced.Reads as is-serviced-reads
+use Rattle.performing.proofs.event.Statement.{statement}
+use Rattle.performing.proofs.event.Tie as tie
+use Rattle.performing.proofs.event.Reads as reads
+use Rattle.performing.proofs.event.Lts as lts
+use Rattle.performing.proofs.is_serviced.Reads as is-serviced-reads
 use Rattle.dispatch.proofs.handle.Reads as handle-reads
 use Rattle.checkout.proofs.service.Reads as service-reads
 use Rattle.verdict.proofs.kind_no.Reads as kind-no-reads

@@ -15,7 +15,8 @@ use Rattle.refinement.specs.Agree.{Class}
 use Rattle.refinement.specs.Mirror.{All, Distinct, all-at}
 use Rattle.refinement.specs.Alike.{Rises}
 use Rattle.refinement.specs.Rules.{many, collect, oneIf, many-none, many-oneIf, taken-cons}
-use Rattle.rules.specs.Tests.{every, tally, among, isTaken, before}
+use Rattle.slot_rules.specs.Tests.{every, tally, among, isTaken}
+use Rattle.list_rules.specs.Tests.{before}
 
 -- ── every ──
 

@@ -25,7 +25,9 @@ use Rattle.refinement.specs.Mirror.{isPending, All, Distinct, Listed, Used, all
 use Rattle.refinement.specs.Alike.{Rises}
 use Rattle.refinement.specs.Stands.{Formed}
 use Rattle.refinement.specs.Rules.{Rules, isShelved, many, rules-formed, formed-rules}
-use Rattle.rules.specs.Tests.{every, tally, among, isTaken, blankPast, slotFits, before, waiterFits, idsBelow, newId, idsDistinct, slotsFit, howMany, countsRight, listedAt, orderRight, blankFrom, queueRises, keepsRules}
+use Rattle.slot_rules.specs.Tests.{every, tally, among, isTaken, slotFits, idsBelow, newId, idsDistinct, slotsFit, howMany, countsRight}
+use Rattle.list_rules.specs.Tests.{blankPast, before, waiterFits, listedAt, orderRight, blankFrom, queueRises}
+use Rattle.rules.specs.Tests.{keepsRules}
 use Rattle.rules.specs.Every.{every-all, all-every, not-among, new-among, all-of, distinct-of, distinct-has, past, tally-same, kinds, many-tally, taken-tally, rises-of, rises-at}
 
 -- ── Ids ────────────────────────────────────────────────────────────────────────────────────────────────────────────────

@@ -10,7 +10,7 @@ use Rattle.event.proofs.step.Statement.{statement}
 use Rattle.event.proofs.step.Tie as tie
 use Rattle.event.proofs.step.Reads as reads
 use Rattle.event.proofs.step.Lts as lts
-use Rattle.event.proofs.event.Reads as event-reads
+use Rattle.performing.proofs.event.Reads as event-reads
 use Rattle.std.proofs.num.wrapping_add_u32.Reads as wrapping-add-u32-reads
 use Rattle.verdict.proofs.verdict.Reads as verdict-reads
 

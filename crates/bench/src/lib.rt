@@ -14,7 +14,9 @@ use libc::STDOUT_FILENO;
 use pool::Pool;
 use reading::Given;
 use slots::Head;
+use slots::NUMBERS;
 use slots::Numbers;
+use slots::STATES;
 use slots::States;
 use slots::Times;
 use slots::Waiters;
@@ -86,9 +88,9 @@ fn play(is_entry: bool, options: Options) {
         say(b"options out of range\n");
         return;
     }
-    let mut numbers: Numbers = [0; 2 * SLOTS];
+    let mut numbers: Numbers = [0; NUMBERS];
     let mut times: Times = [0; SLOTS];
-    let mut states: States = [0; 2 * SLOTS];
+    let mut states: States = [0; STATES];
     let mut waiters: Waiters = [0; QUEUE];
     let mut buf = [0u8; CHUNK];
     let mut out = [0u8; ROOM];

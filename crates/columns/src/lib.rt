@@ -8,8 +8,10 @@ use definition::Purpose;
 use definition::SLOTS;
 use pool::Slot;
 use slots::GENERATIONS;
+use slots::NUMBERS;
 use slots::Numbers;
 use slots::ORDER;
+use slots::STATES;
 use slots::States;
 use slots::Times;
 
@@ -59,9 +61,9 @@ pub struct Parts {
 pub fn columns(slots: [Slot; SLOTS], available: [u8; SLOTS]) -> Parts
     ensures { λ r. ⌜ r ≡ columnsOf slots available ⌝ }
 {
-    let mut numbers: Numbers = [0; 2 * SLOTS];
+    let mut numbers: Numbers = [0; NUMBERS];
     let mut times: Times = [0; SLOTS];
-    let mut states: States = [0; 2 * SLOTS];
+    let mut states: States = [0; STATES];
     let mut i: usize = 0;
     while i < SLOTS {
         let s = slots[i];

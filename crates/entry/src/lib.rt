@@ -6,9 +6,10 @@ use definition::Refusal;
 use pool::Pool;
 use slots::Outcome;
 
+// The answer stands first: where it lies does not depend on the pool's size.
 pub struct Stepped {
-    pub pool: Pool,
     pub outcome: Outcome,
+    pub pool: Pool,
 }
 
 // Any pool value, any frame, any output. A refusal gives the pool back as it came, and leaves the output.
@@ -17,8 +18,8 @@ pub fn step(pool: Pool, frame: &[u8], out: &mut [u8]) -> Stepped
 {
     if out.len() < ROOM {
         return Stepped {
-            pool: pool,
             outcome: Outcome::Refused(Refusal::OutputShort),
+            pool: pool,
         };
     }
     let head = pool.head;
@@ -31,8 +32,8 @@ pub fn step(pool: Pool, frame: &[u8], out: &mut [u8]) -> Stepped
     let mut states = c.states;
     if !rules::keeps_rules(head, &numbers, &times, &states, &waiters) {
         return Stepped {
-            pool: pool,
             outcome: Outcome::Refused(Refusal::Malformed),
+            pool: pool,
         };
     }
     let f = reading::frame_of(frame);
@@ -57,7 +58,7 @@ pub fn step(pool: Pool, frame: &[u8], out: &mut [u8]) -> Stepped
         waiters: waiters,
     };
     Stepped {
-        pool: next,
         outcome: o,
+        pool: next,
     }
 }

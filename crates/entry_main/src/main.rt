@@ -33,8 +33,8 @@ fn once(start: Pool, frame: &[u8], out: &mut [u8]) -> Stepped
     let mut p = start;
     let a = in_place::event(&mut p, frame, out);
     Stepped {
-        pool: p,
         outcome: a,
+        pool: p,
     }
 }
 

@@ -15,7 +15,9 @@ use definition::Refusal;
 use definition::SLOTS;
 use reading::Given;
 use slots::Head;
+use slots::NUMBERS;
 use slots::Numbers;
+use slots::STATES;
 use slots::States;
 use slots::Times;
 use slots::Waiters;
@@ -77,9 +79,9 @@ pub fn take_first(
         Given::Options(p) => {
             let options = options::with_defaults(p);
             if options::in_range(options) {
-                *numbers = [0; 2 * SLOTS];
+                *numbers = [0; NUMBERS];
                 *times = [0; SLOTS];
-                *states = [0; 2 * SLOTS];
+                *states = [0; STATES];
                 *waiters = [0; QUEUE];
                 let h = pool::fresh_head(options);
                 Taken {

@@ -19,7 +19,7 @@ use Rattle.definition.specs.declared.Purpose.{Purpose}
 use Rattle.definition.specs.declared.Purpose.the-variants.{Request, Background}
 use Rattle.slots.specs.Order.{vacantSlot}
 use Rattle.slots.specs.Finding.{vacant-at, vacant-found}
-use Rattle.slots.specs.View.{SlotPool, Slot, vacant, slot}
+use Rattle.slots.specs.View.{SlotPool, Slot, vacant, newSlot}
 use Rattle.slots.specs.View as View
 use Rattle.slots.specs.Slots as S
 use Rattle.refinement.specs.Table.{Fresh, cell, connIn, has-it, one, one-pos, one-zero, taken-put}
@@ -159,7 +159,7 @@ create-same why p m st h =
     let k = tb .mirror in
     let i = vacantSlot (p .ids) in
     let n = p .nextId in
-    let s : Slot = slot (p .generation) (p .clock) (pendingNo why) in
+    let s : Slot = newSlot p (pendingNo why) in
     let x : Conn = P.newConn m why in
     let e : cell x ≡ s = rw (st .alike .generation, st .alike .clock) in
     let z : getD (p .ids) i 0 ≡ 0 = vacant-at (p .ids) low in

@@ -23,7 +23,7 @@ use Rattle.definition.specs.declared.Frame.the-variants.{Good, Bad}
 use Rattle.definition.specs.declared.PoolState.the-variants.{New}
 use Rattle.definition.specs.declared.Refusal.{Refusal}
 use Rattle.definition.specs.declared.Refusal.the-variants.{OutputShort}
-use Rattle.slots.specs.View.{SlotPool, Slot, poolOf, vacant}
+use Rattle.slots.specs.View.{SlotPool, Slot, numbersLength, statesLength, poolOf, vacant}
 use Rattle.slots.specs.Columns.{column-blank}
 use Rattle.slots.specs.Parts.{slots-blank}
 use Rattle.slots.specs.declared.Head.{Head}
@@ -47,10 +47,10 @@ use Rattle.refinement.specs.Call.{Refines, call-refines, refines-stands}
 
 -- a head over columns all of 0
 abbrev pub overBlank : Head → SlotPool
-overBlank h = poolOf h (replicate (2 * slotCount) 0) (replicate slotCount 0) (replicate (2 * slotCount) 0) (replicate queueLength 0)
+overBlank h = poolOf h (replicate numbersLength 0) (replicate slotCount 0) (replicate statesLength 0) (replicate queueLength 0)
 
 pub fresh-parts : (o : Options) → overBlank (freshHead o) ≡ freshSlots o
-fresh-parts o = rw (slots-blank (2 * slotCount) (2 * slotCount) (omega arith) (omega arith), column-blank 0 (2 * slotCount) (omega arith), column-blank 1 (2 * slotCount) (omega arith))
+fresh-parts o = rw (slots-blank numbersLength statesLength (omega arith) (omega arith), column-blank 0 numbersLength (omega arith), column-blank 1 statesLength (omega arith))
 
 pub zeros : (n j : ℕ) → getD {A = ℕ} (replicate n 0) j 0 ≡ 0
 zeros zero j = refl

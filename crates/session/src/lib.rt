@@ -10,7 +10,9 @@ use definition::ROOM;
 use definition::SLOTS;
 use runs::Run;
 use slots::Head;
+use slots::NUMBERS;
 use slots::Numbers;
+use slots::STATES;
 use slots::States;
 use slots::Times;
 use slots::Waiters;
@@ -35,9 +37,9 @@ pub fn begin(budget: u64) -> Session
     Session {
         run: run,
         head: head,
-        numbers: [0; 2 * SLOTS],
+        numbers: [0; NUMBERS],
         times: [0; SLOTS],
-        states: [0; 2 * SLOTS],
+        states: [0; STATES],
         waiters: [0; QUEUE],
         scratch: [0u8; ROOM],
     }

@@ -18,7 +18,7 @@ use Rattle.definition.specs.declared.PoolState.the-variants.{New, Paused, Ready
 use Rattle.definition.specs.declared.ClosedReason.{ClosedReason}
 use Rattle.definition.specs.declared.ClosedReason.the-variants.{Idle, Stale, Error, Dropped, PoolClosed}
 use Rattle.slots.specs.Order.{vacantSlot, shifted}
-use Rattle.slots.specs.View.{SlotPool, slot, vacant, withState, withTable, withCounts, withNextId, withAvailable, withWaiters, withStatus, withLastRequest, idAt, slotAt, staleAt, perishedAt, waiterOf}
+use Rattle.slots.specs.View.{SlotPool, newSlot, vacant, withState, withTable, withCounts, withNextId, withAvailable, withWaiters, withStatus, withLastRequest, idAt, slotAt, staleAt, perishedAt, waiterOf}
 
 -- the numbers of the states
 abbrev pub vacantNo : ℕ
@@ -72,7 +72,7 @@ createPendingConnection state p =
     let i = vacantSlot (p .ids) in
     (do
       emit (ConnectionCreated (p .nextId))
-      become (withCounts (withNextId (withTable p (set (p .ids) i (p .nextId)) (set (p .slots) i (slot (p .generation) (p .clock) state))) (p .nextId + 1)) (p .total + 1) (p .pendings + 1))
+      become (withCounts (withNextId (withTable p (set (p .ids) i (p .nextId)) (set (p .slots) i (newSlot p state))) (p .nextId + 1)) (p .total + 1) (p .pendings + 1))
     ) p
 
 unfoldable pub closePerishedAt : ℕ → Act SlotPool

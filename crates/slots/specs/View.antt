@@ -3,7 +3,7 @@
 use mathlib.Core.Path.{_≡_}
 use mathlib.Core.Bool.{Bool, _||_}
 use mathlib.Core.List.{List, [], _∷_, map}
-use Prim.Native.Nat.{ℕ, _+_, _/_, _%_, _≤_, _<_}
+use Prim.Native.Nat.{ℕ, _+_, _*_, _/_, _%_, _≤_, _<_}
 use lib.ListN.{length, getD}
 use denote.Ref.{RefT, now}
 use denote.Triple.Both.{Both}
@@ -35,6 +35,12 @@ withState k t s = slot (s .generation) t k
 -- ── The columns ────────────────────────────────────────────────────────────────────────────────────────────────────────
 
 -- `numbers` has the ids, then the generations; `times` is one column; `states` has the states, then the available slots, front to back
+abbrev pub numbersLength : ℕ
+numbersLength = 2 * slotCount
+
+abbrev pub statesLength : ℕ
+statesLength = 2 * slotCount
+
 abbrev pub idsIn : (numbers : List ℕ) → List ℕ
 idsIn numbers = column 0 numbers
 
@@ -98,6 +104,10 @@ poolOf h numbers times states waiters =
 
 -- the pool with other values in some places
 module _ (p : SlotPool) where
+  -- what a slot holds once a connection is made in it
+  abbrev pub newSlot : (state : ℕ) → Slot
+  newSlot state = slot (p .generation) (p .clock) state
+
   abbrev pub withTable : List ℕ → List Slot → SlotPool
   withTable i s = slotPool (p .options) (p .state) (p .generation) (p .nextId) (p .clock) (p .lastRequest) (p .serial) (p .total) (p .pendings) (p .availables) (p .waitings) i s (p .available) (p .waiters)
 

@@ -17,7 +17,9 @@ pub struct Status {
 // The slots' ids, then their generations.
 pub const GENERATIONS: usize = SLOTS;
 
-pub type Numbers = [u32; 2 * SLOTS];
+pub const NUMBERS: usize = 2 * SLOTS;
+
+pub type Numbers = [u32; NUMBERS];
 
 // When each slot's connection became available, or was last named.
 pub type Times = [u64; SLOTS];
@@ -25,7 +27,9 @@ pub type Times = [u64; SLOTS];
 // The slots' states, then the available slots, front to back.
 pub const ORDER: usize = SLOTS;
 
-pub type States = [u8; 2 * SLOTS];
+pub const STATES: usize = 2 * SLOTS;
+
+pub type States = [u8; STATES];
 
 // Front to back: four times the request's id, and 1 if it warms the pool, 2 if it was abandoned.
 pub type Waiters = [u64; QUEUE];

@@ -118,7 +118,7 @@ module _ {M : Type 1} (𝓤 : URA M) (H : Heap 𝓤) (A : Atoms 𝓤) (W : Given
   Said p a zs = left p zs a ≡ entry h (f .now) (y .now)
 
   abbrev both : Pool → Outcome → Stepped
-  both p a = record { pool = p; outcome = a }
+  both p a = record { outcome = a; pool = p }
 
   abbrev res : Pool → Outcome → Val
   res p a = LL.val S.the-type S′.the-laws (both p a)
@@ -211,11 +211,11 @@ module _ {M : Type 1} (𝓤 : URA M) (H : Heap 𝓤) (A : Atoms 𝓤) (W : Given
         use1 W (‵ (fat fullShare T′.mir l₄ 0 (val (zs .0))) ⊛ ‵ (T.the-row .own (zs .0) (val (zs .0) ∷ []))) (lies-out 𝓤 H A W (zs .0) l₄) $ split ! $ move ! (1 ∷ []) $
         peeks ! T.the-row (Is T.the-row) (shows 𝓤 H A T.the-row) (zs .0) (val (zs .0) ∷ []) (λ is-p. move ! (1 ∷ 0 ∷ []) $
         -- [_4; what the pool owns; the tokens (2); what the answer owns (3); the last list (4); true; true; the frame (7); _9 (8); _8 (10); _7 (12); _6 (14); _5 (16); what frees _4 (18); _3 (19); _2 (21); _1 (23); _0 (25)]
-        -- _9 = _4;  _0 = (_9, _5)
+        -- _9 = _4;  _0 = (_5, _9)
         assigns ! (of-opd ! (load ! (from ! (stop !)) (look ! 0 refl))) (from ! (stop !)) (init ! 8 refl (LL.lawful T.the-type T′.the-laws 𝓤 H A W .typed (zs .0) _ is-p .0)) $
         (let is-a : Is N.the-row a (ans a ∷ []) = EL.owes N.the-type N′.the-laws a (EL.owed N.the-type N′.the-laws a _ is) in
-        let is-r : Is S.the-row (both (zs .0) a) (res (zs .0) a ∷ []) = LL.owes S.the-type S′.the-laws (both (zs .0) a) (is-p, (is-a, tt)) in
-        assigns ! (agg ! (and-then ! (load ! (from ! (stop !)) (look ! 8 refl)) (and-then ! (load ! (from ! (stop !)) (look ! 16 refl)) (no-more !))))
+        let is-r : Is S.the-row (both (zs .0) a) (res (zs .0) a ∷ []) = LL.owes S.the-type S′.the-laws (both (zs .0) a) (is-a, (is-p, tt)) in
+        assigns ! (agg ! (and-then ! (load ! (from ! (stop !)) (look ! 16 refl)) (and-then ! (load ! (from ! (stop !)) (look ! 8 refl)) (no-more !))))
         (from ! (stop !)) (init ! 25 refl (LL.lawful S.the-type S′.the-laws 𝓤 H A W .typed (both (zs .0) a) _ is-r .0)) $
         returns ! (look ! 25 refl) $ forget ! 0 refl $ forget ! 8 refl $ forget ! 10 refl $ forget ! 12 refl $ forget ! 14 refl $
         forget ! 16 refl $ forget ! 19 refl $ forget ! 21 refl $ forget ! 23 refl $ forget ! 25 refl $

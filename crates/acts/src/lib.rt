@@ -12,7 +12,6 @@ ghost use Rattle.slots.specs.Done.{Room, Done};
 ghost use Rattle.slots.specs.Codes.{reasonOf, replyOf, IsReply};
 ghost use Rattle.slots.specs.Needs.{CanCreate, CanClose, CanShelve, CanPrune};
 ghost use Rattle.slots.specs.Slots.{closeAt, shelve, setStateAt, popFront, popBack, createPendingConnection};
-use slots::GENERATIONS;
 use slots::Head;
 use slots::Numbers;
 use slots::ORDER;
@@ -63,10 +62,7 @@ pub fn close_connection(
         words::as_u64(numbers[i]),
         other,
     );
-    numbers[i] = 0;
-    numbers[GENERATIONS + i] = 0;
-    times[i] = 0;
-    states[i] = 0;
+    table::put_slot(numbers, times, states, i, 0, 0, 0, 0);
     let mut h = head;
     h.total_connection_count = h.total_connection_count - 1;
     Progress {
@@ -167,10 +163,16 @@ pub fn create_pending_connection(
     let id = head.next_connection_id;
     records::emit(out, n, head.serial, 1, 0, words::as_u64(id), 0);
     let m = head.status;
-    numbers[i] = id;
-    numbers[GENERATIONS + i] = m.generation;
-    times[i] = head.clock;
-    states[i] = state;
+    table::put_slot(
+        numbers,
+        times,
+        states,
+        i,
+        id,
+        m.generation,
+        head.clock,
+        state,
+    );
     let mut h = head;
     h.next_connection_id = id + 1;
     h.total_connection_count = h.total_connection_count + 1;

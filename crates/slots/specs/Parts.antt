@@ -6,7 +6,6 @@ use native.Mathlib.Omega.{arith}
 use lib.ListN.{length, getD, set, replicate}
 use Rattle.definition.specs.Pool.{slotCount}
 use Rattle.slots.specs.Columns.{offset, column, column-at, first-at, column-long, long-column, column-set, column-before, column-behind, column-blank, zip, zip-set, zip-set-second, zip-at, zip-long, zip-fits, zip-map, zip-replicate}
-use Rattle.slots.specs.Order.{vacantSlot}
 use Rattle.slots.specs.View.{SlotPool, Slot, slot, vacant, withState, withTable, withAvailable, idAt, slotAt, idsIn, generationsIn, statesIn, orderIn, slotsOf, poolOf, Whole}
 use Rattle.slots.specs.declared.Head.{Head}
 
@@ -94,12 +93,6 @@ module _ (h : Head) (ns ts ss ws : List ℕ) where
       column-set 0 (set ss (slotCount + k) i) i i 1 (omega arith) low ∙ ap (λ (l : List ℕ). set l i 1) (column-behind 0 ss (slotCount + k) i (omega arith)) in
       let order : orderIn (set (set ss (slotCount + k) i) i 1) ≡ set (orderIn ss) k i = column-before 1 (set ss (slotCount + k) i) i 1 (omega arith) ∙ column-set 1 ss k (slotCount + k) i (omega arith) spot in
       rw (slots-set-state ns ts ss w (set (set ss (slotCount + k) i) i 1) i t 1 low states, order)
-
-  -- a new connection in the slot that was found
-  pub created-pool : (i x g t s : ℕ) → i ≡ vacantSlot (pool .ids) → i < slotCount
-      → poolOf h (set (set ns i x) (slotCount + i) g) (set ts i t) (set ss i s) ws
-      ≡ withTable pool (set (pool .ids) (vacantSlot (pool .ids)) x) (set (pool .slots) (vacantSlot (pool .ids)) (slot g t s))
-  created-pool i x g t s e low = rw (← e) (put-pool i x g t s low)
 
   -- ── What is read ───────────────────────────────────────────────────────────────────────────────────────────────────────
 

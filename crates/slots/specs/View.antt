@@ -4,7 +4,7 @@ use mathlib.Core.Path.{_≡_}
 use mathlib.Core.Bool.{Bool, _||_}
 use mathlib.Core.List.{List, [], _∷_, map}
 use Prim.Native.Nat.{ℕ, _+_, _*_, _/_, _%_, _≤_, _<_}
-use lib.ListN.{length, getD}
+use lib.ListN.{length, getD, set}
 use denote.Ref.{RefT, now}
 use denote.Triple.Both.{Both}
 use Rattle.definition.specs.Words.{_≤?_, _=?_}
@@ -164,6 +164,10 @@ before h numbers times states waiters = poolOf h (now (numbers .entry)) (now (ti
 
 abbrev pub after : Head → Lent → Lent → Lent → Lent → SlotPool
 after h numbers times states waiters = poolOf h (now (numbers .exit)) (now (times .exit)) (now (states .exit)) (now (waiters .exit))
+
+-- from these columns to those, whatever the head and the queue: slot i gets an id and what it holds, and nothing else of the pool changes
+pub record Puts (i id : ℕ) (held : Slot) (numbers times states numbers' times' states' : List ℕ) : Type 0 where
+  pub pool : (h : Head) (waiters : List ℕ) → let p = poolOf h numbers times states waiters in poolOf h numbers' times' states' waiters ≡ withTable p (set (p .ids) i id) (set (p .slots) i held)
 
 -- the columns have their lengths (what lies behind a reference is a list whose length nothing tells)
 pub record Whole (p : SlotPool) : Type 0 where

@@ -1,14 +1,16 @@
-// What the pool's columns need: finding and shifting. Nothing here knows what a pool is.
+// What the pool's columns need: finding, shifting, and putting a slot. Only the contract of put_slot knows what a pool is.
 ghost use mathlib.Core.Path.{_≡_};
 ghost use Prim.Native.Nat.{_+_, _≤_, _<_};
 ghost use lib.ListN.{length};
 ghost use Rattle.definition.specs.Pool.{slotCount, queueLength};
 ghost use Rattle.slots.specs.Order.{placeOf, slotHolding, vacantSlot, shifted};
-ghost use Rattle.slots.specs.View.{idsIn, statesIn, orderIn};
+ghost use Rattle.slots.specs.View.{idsIn, statesIn, orderIn, slot, Puts};
 use definition::SLOTS;
+use slots::GENERATIONS;
 use slots::Numbers;
 use slots::ORDER;
 use slots::States;
+use slots::Times;
 use slots::Waiters;
 
 // The slot that holds the id, or the count of slots.
@@ -82,4 +84,24 @@ pub fn shift_waiters(waiters: &mut Waiters, n: usize)
         i += 1;
     }
     waiters[n - 1] = 0;
+}
+
+// Slot i gets an id and what it holds, in every column: the acts that fill or empty a slot do it by this alone.
+pub fn put_slot(
+    numbers: &mut Numbers,
+    times: &mut Times,
+    states: &mut States,
+    i: usize,
+    id: u32,
+    generation: u32,
+    time: u64,
+    state: u8,
+)
+    requires { ⌜ i < slotCount ⌝ }
+    ensures { λ _. ⌜ Puts i id (slot generation time state) (now (numbers .entry)) (now (times .entry)) (now (states .entry)) (now (numbers .exit)) (now (times .exit)) (now (states .exit)) ⌝ }
+{
+    numbers[i] = id;
+    numbers[GENERATIONS + i] = generation;
+    times[i] = time;
+    states[i] = state;
 }

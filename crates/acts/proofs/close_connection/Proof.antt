@@ -8,6 +8,7 @@ use Rattle.acts.proofs.close_connection.Reads as reads
 use Rattle.acts.proofs.close_connection.Lts as lts
 use Rattle.words.proofs.as_u64.Reads as as-u64-reads
 use Rattle.records.proofs.emit.Reads as emit-reads
+use Rattle.table.proofs.put_slot.Reads as put-slot-reads
 
 mul-as-u64 : tie.Need-mul-as-u64
 mul-as-u64 c = search needs
@@ -21,29 +22,8 @@ as-u64-requires c κs = search needs
 emit-requires : tie.Need-emit-requires
 emit-requires c κs = search needs
 
-mul-numbers : tie.Need-mul-numbers
-mul-numbers c = search needs
-
-element-write-numbers : tie.Need-element-write-numbers
-element-write-numbers c = search needs
-
-add-numbers : tie.Need-add-numbers
-add-numbers c = search needs
-
-mul-numbers-2 : tie.Need-mul-numbers-2
-mul-numbers-2 c = search needs
-
-element-write-numbers-2 : tie.Need-element-write-numbers-2
-element-write-numbers-2 c = search needs
-
-mul-times : tie.Need-mul-times
-mul-times c = search needs
-
-element-write-times : tie.Need-element-write-times
-element-write-times c = search needs
-
-element-write-states : tie.Need-element-write-states
-element-write-states c = search needs
+put-slot-requires : tie.Need-put-slot-requires
+put-slot-requires c κs = search needs
 
 sub-h : tie.Need-sub-h
 sub-h c = search needs
@@ -56,11 +36,13 @@ same-length c = search needs
 
 returns : tie.Need-returns
 returns c =
-    let start = c .before .before .before .before .before .before .before .before in
+    let put = c .before in
+    let written = put .before .before .before .before .before .before in
+    let start = written .before .before .before .before .before in
     let a = start .args in
     let r = start .pre in
     closed-done (a .head) (now (a .numbers)) (now (a .times)) (now (a .states)) (now (a .waiters)) (a .i) (a .reason) (a .other) _ (r .1 .slot) (r .3) (r .4)
-    (c .before .before .before .before .as-u64 .ensures) (c .before .before .before .emit .ensures) _ refl
+    (written .before .as-u64 .ensures) (written .emit .ensures) (put .put-slot .ensures) _ refl
 
 pub close-connection-spec : {M : Type 1} → statement M
 close-connection-spec =
@@ -70,14 +52,7 @@ close-connection-spec =
     element-copy-out-as-u64
     as-u64-requires
     emit-requires
-    mul-numbers
-    element-write-numbers
-    add-numbers
-    mul-numbers-2
-    element-write-numbers-2
-    mul-times
-    element-write-times
-    element-write-states
+    put-slot-requires
     sub-h
     add-t19
     same-length

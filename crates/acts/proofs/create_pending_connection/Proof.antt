@@ -12,6 +12,7 @@ use Rattle.acts.proofs.create_pending_connection.Lts as lts
 use Rattle.words.proofs.as_u64.Reads as as-u64-reads
 use Rattle.records.proofs.emit.Reads as emit-reads
 use Rattle.table.proofs.find_vacant.Reads as find-vacant-reads
+use Rattle.table.proofs.put_slot.Reads as put-slot-reads
 
 -- there is a vacant slot
 low : (d : tie.After-find-vacant) → d .find-vacant .result < slotCount
@@ -20,6 +21,10 @@ low d = omega (arith, d .find-vacant .ensures, d .before .before .before .pre .1
 -- found before the record was written
 abbrev found : tie.After-m → tie.After-find-vacant
 found d = d .before .before .before .before .before .before
+
+-- before the slot was put
+abbrev unput : tie.After-put-slot → tie.After-m
+unput d = d .before .before .before .before
 
 find-vacant-requires : tie.Need-find-vacant-requires
 find-vacant-requires c κs = search needs
@@ -30,29 +35,8 @@ as-u64-requires c κs = search needs
 emit-requires : tie.Need-emit-requires
 emit-requires c κs = search needs
 
-mul-numbers : tie.Need-mul-numbers
-mul-numbers c = omega (arith, low (found c))
-
-element-write-numbers : tie.Need-element-write-numbers
-element-write-numbers c = omega (arith, low (found c))
-
-add-numbers : tie.Need-add-numbers
-add-numbers c = omega (arith, low (found c))
-
-mul-numbers-2 : tie.Need-mul-numbers-2
-mul-numbers-2 c = omega (arith, low (found c))
-
-element-write-numbers-2 : tie.Need-element-write-numbers-2
-element-write-numbers-2 c = omega (arith, low (found c))
-
-mul-times : tie.Need-mul-times
-mul-times c = omega (arith, low (found c))
-
-element-write-times : tie.Need-element-write-times
-element-write-times c = low (found c)
-
-element-write-states : tie.Need-element-write-states
-element-write-states c = omega (arith, low (found c))
+put-slot-requires : tie.Need-put-slot-requires
+put-slot-requires c κs = low (found (c .before .before .before))
 
 add-h : tie.Need-add-h
 add-h c = search needs
@@ -61,21 +45,22 @@ add-h-2 : tie.Need-add-h-2
 add-h-2 c = search needs
 
 add-h-3 : tie.Need-add-h-3
-add-h-3 c = search needs
+add-h-3 c = search (needs, found (unput (c .before .before)) .before .before .before .pre .1 .pending)
 
-add-t28 : tie.Need-add-t28
-add-t28 c = search needs
+add-t21 : tie.Need-add-t21
+add-t21 c = search (needs, found (unput (c .before .before)) .before .before .before .pre .2)
 
 same-length : tie.Need-same-length
 same-length c = search needs
 
 returns : tie.Need-returns
 returns c =
-    let written = c .before .before in
-    let d = found written in
+    let put = c .before .before in
+    let written = unput put .before .before .before in
+    let d = found (unput put) in
     let a = d .before .before .before .args in
-    created-done (a .head) (now (a .numbers)) (now (a .times)) (now (a .states)) (now (a .waiters)) (d .find-vacant .result) (a .state) _ (d .find-vacant .ensures) (low d)
-    (written .before .before .before .before .as-u64 .ensures) (written .before .before .before .emit .ensures) _ refl
+    created-done (a .head) (now (a .numbers)) (now (a .times)) (now (a .states)) (now (a .waiters)) (d .find-vacant .result) (a .state) _ (d .find-vacant .ensures)
+    (written .before .as-u64 .ensures) (written .emit .ensures) (put .put-slot .ensures) _ refl
 
 pub create-pending-connection-spec : {M : Type 1} → statement M
 create-pending-connection-spec =
@@ -84,17 +69,10 @@ create-pending-connection-spec =
     find-vacant-requires
     as-u64-requires
     emit-requires
-    mul-numbers
-    element-write-numbers
-    add-numbers
-    mul-numbers-2
-    element-write-numbers-2
-    mul-times
-    element-write-times
-    element-write-states
+    put-slot-requires
     add-h
     add-h-2
     add-h-3
-    add-t28
+    add-t21
     same-length
     returns)

@@ -1,6 +1,6 @@
 -- One turn and the end of the loop that takes the slots apart, and of the one that puts them together.
-use mathlib.Core.Path.{_≡_, refl, sym, ap, subst, _∙_}
-use mathlib.Core.List.{List, [], _∷_, _++_, map}
+use mathlib.Core.Path.{_≡_, refl, sym, ap, _∙_}
+use mathlib.Core.List.{List, [], _∷_, map}
 use Prim.Native.Nat.{ℕ, zero, suc, _+_, _≤_, _<_, _*_}
 use native.Mathlib.Numerals.{add-one}
 use native.Mathlib.Omega.{arith}
@@ -9,26 +9,26 @@ use lib.Seq.{take-suc, take-suc-set, take-all}
 use Rattle.definition.specs.Pool.{slotCount, stateNo, stateOfNo}
 use Rattle.definition.specs.declared.ConnectionState.the-variants.{Vacant}
 use Rattle.slots.specs.View as Of
-use Rattle.slots.specs.Columns.{column, column-at, first-at, column-long, column-set, column-before, column-behind, two-columns, zip-at, zip-long}
+use Rattle.slots.specs.Columns.{column, column-at, first-at, column-long, joined, Long, long-at, joined-columns, row, row-long, row-at, zip-at, zip-long}
 use Rattle.slots.specs.Parts.{slots-long, slots-at}
 use Rattle.slots.specs.View.{vacant}
-use Rattle.columns.specs.View.{idOf, generationOf, timeOf, codeOf, slotOf, slotValues, columnsOf, tableOf}
+use Rattle.columns.specs.View.{timeOf, codeOf, cellsBy, columnsBy, numberFields, numberColumns, stateColumns, timesOf, numbersLong, statesLong, valueAt, slotValues, columnsOf, tableOf}
+use Rattle.columns.specs.Laws.{numbers-long, states-long}
 use Rattle.pool.specs.declared.Slot.{Slot}
 use Rattle.columns.specs.declared.Parts.{Parts}
 use Rattle.columns.specs.declared.Table.{Table}
 
--- ── A column, and two in one array, written from the front ─────────────────────────────────────────────────────────────
+-- ── A column, and columns in one array, written from the front ─────────────────────────────────────────────────────────
 
 -- the first i of c are those of xs
 pub record Column {A : Type 0} (xs c : List A) (i : ℕ) : Type 0 where
   pub long : length c ≡ slotCount
   pub front : take i c ≡ take i xs
 
--- of an array of two columns: the first i of them are those of xs and of ys
-pub record Columns (xs ys c : List ℕ) (i : ℕ) : Type 0 where
-  pub long : length c ≡ 2 * slotCount
-  pub front : take i (column 0 c) ≡ take i xs
-  pub back : take i (column 1 c) ≡ take i ys
+-- of an array of the columns cs: the first i of each are written
+pub record Columns (cs : List (List ℕ)) (l : List ℕ) (i : ℕ) : Type 0 where
+  pub long : length l ≡ length cs * slotCount
+  pub front : (k : ℕ) → k < length cs → take i (column k l) ≡ take i (getD cs k [])
 
 one-more : {A : Type 0} (xs c : List A) (d v : A) (i : ℕ) → i < length c → i < length xs → v ≡ getD xs i d → take i c ≡ take i xs
     → take (i + 1) (set c i v) ≡ take (i + 1) xs
@@ -44,66 +44,77 @@ column-more xs c d v i low l e o = record {
 column-end : {A : Type 0} (xs c : List A) (i : ℕ) → i ≡ slotCount → length xs ≡ slotCount → Column xs c i → c ≡ xs
 column-end xs c i e l o = sym (take-all i c (omega (arith, o .long))) ∙ o .front ∙ take-all i xs (omega arith)
 
-pub columns-start : (xs ys c : List ℕ) → length c ≡ 2 * slotCount → Columns xs ys c 0
-columns-start xs ys c e = record { long = e; front = refl; back = refl }
+-- cell i of what a list gives
+got : {A : Type 0} (f : A → ℕ) (l : List A) (i : ℕ) (d : A) → i < length l → getD (map f l) i 0 ≡ f (getD l i d)
+got f [] i d h = absurd (omega arith)
+got f (x ∷ l) zero d h = refl
+got f (x ∷ l) (suc i) d h = got f l i d (omega arith)
 
-module _ (xs ys c : List ℕ) (i : ℕ) (lx : length xs ≡ slotCount) (ly : length ys ≡ slotCount) (t : Columns xs ys c i) where
-  halves : (length (column 0 c) ≡ slotCount) × (length (column 1 c) ≡ slotCount)
-  halves = (column-long 0 c (omega (arith, t .long)), column-long 1 c (omega (arith, t .long)))
+abbrev cell : ℕ → List ℕ → ℕ
+cell i c = getD c i 0
 
-  columns-more : (x y : ℕ) → i < slotCount → x ≡ getD xs i 0 → y ≡ getD ys i 0 → Columns xs ys (set (set c i x) (slotCount + i) y) (i + 1)
-  columns-more x y low ex ey = record {
-    long = simp length-set (t .long);
-    front =
-        ap (take (i + 1)) (column-behind 0 (set c i x) (slotCount + i) y (omega arith) ∙ column-set 0 c i i x (omega arith) low)
-        ∙ one-more xs (column 0 c) 0 x i (omega (arith, halves)) (omega arith) ex (t .front);
-    back =
-        ap (take (i + 1)) (column-set 1 (set c i x) i (slotCount + i) y (omega arith) low ∙ ap (λ (l : List ℕ). set l i y) (column-before 1 c i x (omega arith)))
-        ∙ one-more ys (column 1 c) 0 y i (omega (arith, halves)) (omega arith) ey (t .back);
+pub columns-start : (cs : List (List ℕ)) (l : List ℕ) → length l ≡ length cs * slotCount → Columns cs l 0
+columns-start cs l e = record { long = e; front = λ k h. refl }
+
+module _ (cs : List (List ℕ)) (l : List ℕ) (i : ℕ) (w : Long cs) (t : Columns cs l i) where
+  each-long : (k : ℕ) → k < length cs → length (column k l) ≡ slotCount
+  each-long k h = column-long k l (omega (arith, t .long))
+
+  -- a row that is written is cell i of each
+  columns-more : (vs : List ℕ) → i < slotCount → vs ≡ map (cell i) cs → Columns cs (row i vs l) (i + 1)
+  columns-more vs low e = record {
+    long = row-long 0 i vs l ∙ t .long;
+    front = λ k h.
+        let many : k < length vs = omega (arith, ap length e ∙ length-map cs (cell i)) in
+        let value : getD vs k 0 ≡ cell i (getD cs k []) = ap (λ (r : List ℕ). getD r k 0) e ∙ got (cell i) cs k [] h in
+        ap (take (i + 1)) (row-at i low vs l k many)
+        ∙ one-more (getD cs k []) (column k l) 0 (getD vs k 0) i (omega (arith, each-long k h)) (omega (arith, long-at cs w k h)) value (t .front k h);
   }
 
-  columns-end : i ≡ slotCount → c ≡ xs ++ ys
-  columns-end e =
-      let x : column 0 c ≡ xs = sym (take-all i (column 0 c) (omega (arith, halves))) ∙ t .front ∙ take-all i xs (omega arith) in
-      let y : column 1 c ≡ ys = sym (take-all i (column 1 c) (omega (arith, halves))) ∙ t .back ∙ take-all i ys (omega arith) in
-      two-columns c (t .long) ∙ ap (λ (l : List ℕ). l ++ column 1 c) x ∙ ap (λ (l : List ℕ). xs ++ l) y
+  columns-end : i ≡ slotCount → l ≡ joined cs
+  columns-end e = joined-columns cs l (t .long) (λ k h.
+      sym (take-all i (column k l) (omega (arith, each-long k h))) ∙ t .front k h ∙ take-all i (getD cs k []) (omega (arith, long-at cs w k h)))
 
 -- ── Taken apart ────────────────────────────────────────────────────────────────────────────────────────────────────────
 
 -- the first i are taken
 pub record Taking (ss : List Slot) (av : List ℕ) (i : ℕ) (ns ts ks : List ℕ) : Type 0 where
   pub some : i ≤ slotCount
-  pub numbers : Columns (map idOf ss) (map generationOf ss) ns i
-  pub times : Column (map timeOf ss) ts i
-  pub states : Columns (map codeOf ss) av ks i
+  pub numbers : Columns (numberColumns ss) ns i
+  pub times : Column (timesOf ss) ts i
+  pub states : Columns (stateColumns ss av) ks i
 
-got : (f : Slot → ℕ) (ss : List Slot) (i : ℕ) (d : Slot) → i < length ss → getD (map f ss) i 0 ≡ f (getD ss i d)
-got f [] i d h = absurd (omega arith)
-got f (s ∷ ss) zero d h = refl
-got f (s ∷ ss) (suc i) d h = got f ss i d (omega arith)
+-- what a slot gives to each column is cell i of it
+fields-at : (ss : List Slot) (i : ℕ) (d s : Slot) → i < length ss → s ≡ getD ss i d → (fs : List (Slot → ℕ))
+    → cellsBy fs s ≡ map (cell i) (columnsBy fs ss)
+fields-at ss i d s h e [] = refl
+fields-at ss i d s h e (f ∷ fs) =
+    ap (λ (x : ℕ). x ∷ cellsBy fs s) (ap f e ∙ sym (got f ss i d h))
+    ∙ ap (λ (r : List ℕ). getD (map f ss) i 0 ∷ r) (fields-at ss i d s h e fs)
 
 module _ (ss : List Slot) (av : List ℕ) (i : ℕ) (numbers times states : List ℕ) (ls : length ss ≡ slotCount) (la : length av ≡ slotCount)
     (t : Taking ss av i numbers times states) where
-  all-of : (f : Slot → ℕ) → length (map f ss) ≡ slotCount
-  all-of f = length-map ss f ∙ ls
+  times-long : length (timesOf ss) ≡ slotCount
+  times-long = length-map ss timeOf ∙ ls
 
   pub taking-more : (d s : Slot) (k v : ℕ) → i < slotCount → s ≡ getD ss i d → k ≡ stateNo (s .state) → v ≡ getD av i 0
-      → Taking ss av (i + 1) (set (set numbers i (s .id)) (slotCount + i) (s .generation)) (set times i (s .time)) (set (set states i k) (slotCount + i) v)
+      → Taking ss av (i + 1) (row i (cellsBy numberFields s) numbers) (set times i (s .time)) (row i (k ∷ v ∷ []) states)
   taking-more d s k v low e ek ev =
       let at : (f : Slot → ℕ) → f s ≡ getD (map f ss) i 0 = λ f. ap f e ∙ sym (got f ss i d (omega arith)) in
       record {
         some = omega arith;
-        numbers = columns-more (map idOf ss) (map generationOf ss) numbers i (all-of idOf) (all-of generationOf) (t .numbers)
-            (s .id) (s .generation) low (at idOf) (at generationOf);
-        times = column-more (map timeOf ss) times 0 (s .time) i low (all-of timeOf) (at timeOf) (t .times);
-        states = columns-more (map codeOf ss) av states i (all-of codeOf) la (t .states) k v low (ek ∙ at codeOf) ev;
+        numbers = columns-more (numberColumns ss) numbers i (numbers-long ss ls) (t .numbers)
+            (cellsBy numberFields s) low (fields-at ss i d s (omega arith) e numberFields);
+        times = column-more (timesOf ss) times 0 (s .time) i low times-long (at timeOf) (t .times);
+        states = columns-more (stateColumns ss av) states i (states-long ss av ls la) (t .states) (k ∷ v ∷ []) low
+            (ap (λ (x : ℕ). x ∷ v ∷ []) (ek ∙ at codeOf) ∙ ap (λ (x : ℕ). getD (map codeOf ss) i 0 ∷ x ∷ []) ev);
       }
 
   pub taking-end : i ≡ slotCount → _≡_ {A = Parts} (record { numbers = numbers; times = times; states = states }) (columnsOf ss av)
   taking-end e = rw (
-    columns-end (map idOf ss) (map generationOf ss) numbers i (all-of idOf) (all-of generationOf) (t .numbers) e,
-    column-end (map timeOf ss) times i e (all-of timeOf) (t .times),
-    columns-end (map codeOf ss) av states i (all-of codeOf) la (t .states) e,
+    columns-end (numberColumns ss) numbers i (numbers-long ss ls) (t .numbers) e,
+    column-end (timesOf ss) times i e times-long (t .times),
+    columns-end (stateColumns ss av) states i (states-long ss av ls la) (t .states) e,
   )
 
 -- ── Put together ───────────────────────────────────────────────────────────────────────────────────────────────────────
@@ -125,7 +136,7 @@ pub record Putting (numbers times states : List ℕ) (i : ℕ) (ss : List Slot) 
   pub slots : Column (slotValues numbers times states) ss i
   pub available : Column (Of.orderIn states) av i
 
-module _ (numbers times states : List ℕ) (ln : length numbers ≡ 2 * slotCount) (lt : length times ≡ slotCount) (ls : length states ≡ 2 * slotCount) where
+module _ (numbers times states : List ℕ) (ln : length numbers ≡ numbersLong) (lt : length times ≡ slotCount) (ls : length states ≡ statesLong) where
   ids-long : length (Of.idsIn numbers) ≡ slotCount
   ids-long = column-long 0 numbers (omega arith)
 
@@ -139,13 +150,13 @@ module _ (numbers times states : List ℕ) (ln : length numbers ≡ 2 * slotCoun
   rest-long = column-long 1 states (omega arith)
 
   values-at : (i : ℕ) (d : Slot) → i < slotCount
-      → getD (slotValues numbers times states) i d ≡ slotOf (getD numbers i 0) (getD numbers (slotCount + i) 0) (getD times i 0) (getD states i 0)
+      → getD (slotValues numbers times states) i d ≡ valueAt numbers times states i
   values-at i d low =
       zip-at _ (Of.idsIn numbers) (Of.slotsOf numbers times states) i 0 vacant d (omega (arith, values-long))
       ∙ rw (slots-at numbers times states cells-long i low, first-at numbers i low)
 
   module _ (i : ℕ) (slots : List Slot) (available : List ℕ) (t : Putting numbers times states i slots available) where
-    pub putting-more : (s : Slot) → i < slotCount → s ≡ slotOf (getD numbers i 0) (getD numbers (slotCount + i) 0) (getD times i 0) (getD states i 0)
+    pub putting-more : (s : Slot) → i < slotCount → s ≡ valueAt numbers times states i
         → Putting numbers times states (i + 1) (set slots i s) (set available i (getD states (slotCount + i) 0))
     putting-more s low e = record {
       some = omega arith;

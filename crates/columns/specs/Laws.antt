@@ -1,31 +1,38 @@
 -- A pool value and its columns have the same view, a pool value is that of its view, and equal views are equal pools.
 use mathlib.Core.Path.{_≡_, refl, sym, ap, _∙_}
 use mathlib.Core.List.{List, [], _∷_, map}
-use Prim.Native.Nat.{ℕ, suc, _≤_}
+use Prim.Native.Nat.{ℕ, suc, _≤_, _<_}
 use native.Mathlib.Omega.{arith}
 use lib.ListN.{length, getD, length-map}
 use Rattle.definition.specs.Pool.{slotCount}
 use Rattle.definition.specs.Laws.{state-back, number-back}
-use Rattle.slots.specs.Columns.{zip, column-first, column-later, column-only}
+use Rattle.slots.specs.Columns.{column, Long, column-joined, zip}
 use Rattle.slots.specs.Parts.{slots-map}
 use Rattle.slots.specs.View as Of
 use Rattle.slots.specs.View.{SlotPool, poolOf, vacant}
-use Rattle.columns.specs.View.{idOf, generationOf, timeOf, codeOf, seen, viewOf, numbersOf, timesOf, statesOf, together, poolFrom}
+use Rattle.columns.specs.View.{idOf, generationOf, timeOf, codeOf, seen, viewOf, columnsBy, numberFields, numberColumns, stateColumns, numbersOf, timesOf, statesOf, together, poolFrom}
 use Rattle.pool.specs.declared.Slot.{Slot}
 use Rattle.pool.specs.declared.Pool.{Pool}
 
 -- ── The columns are the view's ─────────────────────────────────────────────────────────────────────────────────────────
 
+fields-long : (ss : List Slot) → length ss ≡ slotCount → (fs : List (Slot → ℕ)) → Long (columnsBy fs ss)
+fields-long ss e [] = tt
+fields-long ss e (f ∷ fs) = (length-map ss f ∙ e, fields-long ss e fs)
+
+pub numbers-long : (ss : List Slot) → length ss ≡ slotCount → Long (numberColumns ss)
+numbers-long ss e = fields-long ss e numberFields
+
+pub states-long : (ss : List Slot) (available : List ℕ) → length ss ≡ slotCount → length available ≡ slotCount → Long (stateColumns ss available)
+states-long ss available e f = (length-map ss codeOf ∙ e, (f, tt))
+
 pub view-columns : (p : Pool) → length (p .slots) ≡ slotCount → length (p .available) ≡ slotCount
     → viewOf p ≡ poolOf (p .head) (numbersOf (p .slots)) (timesOf (p .slots)) (statesOf (p .slots) (p .available)) (p .waiters)
 view-columns p e f =
     let ss = p .slots in
-    let all : (g : Slot → ℕ) → length (map g ss) ≡ slotCount = λ g. length-map ss g ∙ e in
-    let ids : Of.idsIn (numbersOf ss) ≡ map idOf ss = column-first (map idOf ss) (map generationOf ss) (all idOf) in
-    let generations : Of.generationsIn (numbersOf ss) ≡ map generationOf ss = column-later (map idOf ss) (map generationOf ss) (all idOf) 0 ∙ column-only (map generationOf ss) (all generationOf) in
-    let states : Of.statesIn (statesOf ss (p .available)) ≡ map codeOf ss = column-first (map codeOf ss) (p .available) (all codeOf) in
-    let order : Of.orderIn (statesOf ss (p .available)) ≡ p .available = column-later (map codeOf ss) (p .available) (all codeOf) 0 ∙ column-only (p .available) f in
-    rw (ids, slots-map generationOf timeOf codeOf ss (numbersOf ss) (statesOf ss (p .available)) generations states, order)
+    let numbers : (k : ℕ) → k < length numberFields → column k (numbersOf ss) ≡ getD (numberColumns ss) k [] = column-joined (numberColumns ss) (numbers-long ss e) in
+    let states : (k : ℕ) → k < 2 → column k (statesOf ss (p .available)) ≡ getD (stateColumns ss (p .available)) k [] = column-joined (stateColumns ss (p .available)) (states-long ss (p .available) e f) in
+    rw (numbers 0 (omega arith), slots-map generationOf timeOf codeOf ss (numbersOf ss) (statesOf ss (p .available)) (numbers 1 (omega arith)) (states 0 (omega arith)), states 1 (omega arith))
 
 -- ── There and back ─────────────────────────────────────────────────────────────────────────────────────────────────────
 

@@ -1,8 +1,9 @@
 -- A pool value as the pool on slots that it is, its columns, and the pool value of a pool on slots.
-use mathlib.Core.List.{List, [], _∷_, _++_, map}
-use Prim.Native.Nat.{ℕ}
-use Rattle.definition.specs.Pool.{stateNo, stateOfNo}
-use Rattle.slots.specs.Columns.{zip}
+use mathlib.Core.List.{List, [], _∷_, map}
+use Prim.Native.Nat.{ℕ, _+_, _*_}
+use lib.ListN.{length, getD}
+use Rattle.definition.specs.Pool.{slotCount, stateNo, stateOfNo}
+use Rattle.slots.specs.Columns.{joined, zip}
 use Rattle.slots.specs.View as Of
 use Rattle.slots.specs.View.{SlotPool}
 use Rattle.slots.specs.declared.Head.{Head}
@@ -39,14 +40,38 @@ viewOf p =
 
 -- ── Its columns ────────────────────────────────────────────────────────────────────────────────────────────────────────
 
+-- what a slot gives to each of some columns, and the columns that the slots give
+abbrev pub cellsBy : List (Slot → ℕ) → Slot → List ℕ
+cellsBy fs s = map (λ (f : Slot → ℕ). f s) fs
+
+abbrev pub columnsBy : List (Slot → ℕ) → List Slot → List (List ℕ)
+columnsBy fs ss = map (λ (f : Slot → ℕ). map f ss) fs
+
+-- the columns of `numbers`, in their order, and those of `states`
+abbrev pub numberFields : List (Slot → ℕ)
+numberFields = idOf ∷ generationOf ∷ []
+
+abbrev pub numberColumns : List Slot → List (List ℕ)
+numberColumns = columnsBy numberFields
+
+abbrev pub stateColumns : List Slot → List ℕ → List (List ℕ)
+stateColumns ss available = map codeOf ss ∷ available ∷ []
+
+-- so long are the two arrays
+abbrev pub numbersLong : ℕ
+numbersLong = length numberFields * slotCount
+
+abbrev pub statesLong : ℕ
+statesLong = 2 * slotCount
+
 abbrev pub numbersOf : List Slot → List ℕ
-numbersOf ss = map idOf ss ++ map generationOf ss
+numbersOf ss = joined (numberColumns ss)
 
 abbrev pub timesOf : List Slot → List ℕ
 timesOf ss = map timeOf ss
 
 abbrev pub statesOf : List Slot → List ℕ → List ℕ
-statesOf ss available = map codeOf ss ++ available
+statesOf ss available = joined (stateColumns ss available)
 
 abbrev pub columnsOf : List Slot → List ℕ → Parts
 columnsOf ss available = record { numbers = numbersOf ss; times = timesOf ss; states = statesOf ss available }
@@ -55,6 +80,10 @@ columnsOf ss available = record { numbers = numbersOf ss; times = timesOf ss; st
 
 abbrev pub slotOf : (id generation time state : ℕ) → Slot
 slotOf id generation time state = record { id = id; generation = generation; time = time; state = stateOfNo state }
+
+-- what the columns hold of slot i
+abbrev pub valueAt : (numbers times states : List ℕ) → ℕ → Slot
+valueAt numbers times states i = slotOf (getD numbers i 0) (getD numbers (slotCount + i) 0) (getD times i 0) (getD states i 0)
 
 -- an id beside what its slot holds
 abbrev pub together : List ℕ → List Of.Slot → List Slot

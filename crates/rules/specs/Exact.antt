@@ -2,7 +2,7 @@
 use mathlib.Core.Path.{_≡_, refl, sym, ap, _∙_}
 use mathlib.Core.Bool.{Bool, true, false, not, _&&_, false≢true}
 use mathlib.Core.List.{List, map}
-use Prim.Native.Nat.{ℕ, zero, suc, _+_, _/_, _≤_, _<_}
+use Prim.Native.Nat.{ℕ, zero, suc, _/_, _≤_, _<_}
 use native.Mathlib.Omega.{arith}
 use lib.ListN.{length, getD, take}
 use lib.Seq.{getD-take, length-take-le}
@@ -15,7 +15,7 @@ use Rattle.definition.specs.Pool.{queueLength, inRange, slotCount}
 use Rattle.definition.specs.Refusals.{mostNextId}
 use Rattle.definition.specs.declared.Options.{Options}
 use Rattle.slots.specs.declared.Head.{Head}
-use Rattle.slots.specs.View.{SlotPool, Slot, poolOf, Whole, waiterOf, idsIn, orderIn, slot, vacant}
+use Rattle.slots.specs.View.{SlotPool, Slot, poolOf, Whole, waiterOf, idsIn, orderIn, vacant}
 use Rattle.slots.specs.View as View
 use Rattle.slots.specs.Needs.{taken}
 use Rattle.slots.specs.Parts.{slot-at}
@@ -25,7 +25,7 @@ use Rattle.refinement.specs.Mirror.{isPending, All, Distinct, Listed, Used, all
 use Rattle.refinement.specs.Alike.{Rises}
 use Rattle.refinement.specs.Stands.{Formed}
 use Rattle.refinement.specs.Rules.{Rules, isShelved, many, rules-formed, formed-rules}
-use Rattle.slot_rules.specs.Tests.{every, tally, among, isTaken, slotFits, idsBelow, newId, idsDistinct, slotsFit, howMany, countsRight}
+use Rattle.slot_rules.specs.Tests.{every, tally, among, isTaken, isVacant, vacant-only, slotFits, slotIn, slotFitsAt, idsBelow, newId, idsDistinct, slotsFit, howMany, countsRight}
 use Rattle.list_rules.specs.Tests.{blankPast, before, waiterFits, listedAt, orderRight, blankFrom, queueRises}
 use Rattle.rules.specs.Tests.{keepsRules}
 use Rattle.rules.specs.Every.{every-all, all-every, not-among, new-among, all-of, distinct-of, distinct-has, past, tally-same, kinds, many-tally, taken-tally, rises-of, rises-at}
@@ -74,29 +74,18 @@ module _ (cs : List ℕ) (l : length (idsIn cs) ≡ slotCount) where
 
 -- ── Slots ──────────────────────────────────────────────────────────────────────────────────────────────────────────────
 
-made : (g t k : ℕ) → g ≡ 0 → t ≡ 0 → k ≡ 0 → _≡_ {A = Slot} (slot g t k) vacant
-made g t k a b c = rw (a, b, c)
-
-fits-vacant : (id g t k : ℕ) → id ≡ 0 → slotFits id g t k ≡ (k =? 0 && (g =? 0 && t =? 0))
+fits-vacant : (id : ℕ) (s : Slot) → id ≡ 0 → slotFits id s ≡ isVacant s
 unfolding slotFits if_then_else_
-fits-vacant id g t k e = rw (eq-eqb id 0 e)
+fits-vacant id s e = rw (eq-eqb id 0 e)
 
-fits-used : (id g t k : ℕ) → 0 < id → slotFits id g t k ≡ (1 ≤? k && k ≤? 6)
+fits-used : (id : ℕ) (s : Slot) → 0 < id → slotFits id s ≡ (1 ≤? s .state && s .state ≤? 6)
 unfolding slotFits if_then_else_
-fits-used id g t k z = let n : id ≡ 0 → ⊥ = λ q. omega arith in rw (ne-eqb id 0 n)
+fits-used id s z = let n : id ≡ 0 → ⊥ = λ q. omega arith in rw (ne-eqb id 0 n)
 
-vacant-say : (id g t k : ℕ) → id ≡ 0 → slotFits id g t k ≡ true → _≡_ {A = Slot} (slot g t k) vacant
-vacant-say id g t k e h =
-    let f : (k =? 0 && (g =? 0 && t =? 0)) ≡ true = sym (fits-vacant id g t k e) ∙ h in
-    let r = and-right (k =? 0) (g =? 0 && t =? 0) f in
-    made g t k
-    (eqb-true g 0 (and-left (g =? 0) (t =? 0) r))
-    (eqb-true t 0 (and-right (g =? 0) (t =? 0) r))
-    (eqb-true k 0 (and-left (k =? 0) (g =? 0 && t =? 0) f))
-
-used-say : (id g t k : ℕ) → 0 < id → slotFits id g t k ≡ true → (0 < k) × (k ≤ 6)
-used-say id g t k z h =
-    let f : (1 ≤? k && k ≤? 6) ≡ true = sym (fits-used id g t k z) ∙ h in
+used-say : (id : ℕ) (s : Slot) → 0 < id → slotFits id s ≡ true → Used s
+used-say id s z h =
+    let k = s .state in
+    let f : (1 ≤? k && k ≤? 6) ≡ true = sym (fits-used id s z) ∙ h in
     (omega (arith, leb-true 1 k (and-left (1 ≤? k) (k ≤? 6) f)), leb-true k 6 (and-right (1 ≤? k) (k ≤? 6) f))
 
 module _ (h : Head) (cs ts ss ws : List ℕ) (w : Whole (poolOf h cs ts ss ws)) where
@@ -116,47 +105,40 @@ module _ (h : Head) (cs ts ss ws : List ℕ) (w : Whole (poolOf h cs ts ss ws)) 
   state-of : (j : ℕ) → j < slotCount → View.slotAt P j .state ≡ getD ss j 0
   state-of j low = ap (λ (s : Slot). s .state) (slot-at h cs ts ss ws w j low)
 
-  fit-at : slotsFit cs ts ss ≡ true → (j : ℕ) → j < slotCount → slotFits (getD cs j 0) (getD cs (slotCount + j) 0) (getD ts j 0) (getD ss j 0) ≡ true
+  -- what is tested of the columns is tested of the slot
+  fits-same : (j : ℕ) → j < slotCount → slotFitsAt cs ts ss j ≡ slotFits (View.idAt P j) (View.slotAt P j)
+  fits-same j k =
+      ap (λ (x : ℕ). slotFits x (slotIn cs ts ss j)) (sym (id-of j k))
+      ∙ ap (λ (s : Slot). slotFits (View.idAt P j) s) (sym (slot-at h cs ts ss ws w j k))
+
+  fit-at : slotsFit cs ts ss ≡ true → (j : ℕ) → j < slotCount → slotFits (View.idAt P j) (View.slotAt P j) ≡ true
   unfolding slotsFit
-  fit-at f = every-all slotCount (λ i. slotFits (getD cs i 0) (getD cs (slotCount + i) 0) (getD ts i 0) (getD ss i 0)) f
+  fit-at f j k = sym (fits-same j k) ∙ every-all slotCount (slotFitsAt cs ts ss) f j k
 
   slots-blank : slotsFit cs ts ss ≡ true → Blank
   slots-blank f j e =
       by-lt j slotCount
-      (λ k. slot-at h cs ts ss ws w j k
-      ∙ vacant-say (getD cs j 0) (getD cs (slotCount + j) 0) (getD ts j 0) (getD ss j 0) (sym (id-of j k) ∙ e) (fit-at f j k))
+      (λ k. vacant-only (View.slotAt P j) (sym (fits-vacant (View.idAt P j) (View.slotAt P j) e) ∙ fit-at f j k))
       (λ k. past (P .slots) vacant j (omega (arith, w .slots)))
 
   slots-used : slotsFit cs ts ss ≡ true → InUse
   slots-used f j z =
       by-lt j slotCount
-      (λ k. let r = used-say (getD cs j 0) (getD cs (slotCount + j) 0) (getD ts j 0) (getD ss j 0) (omega (arith, id-of j k)) (fit-at f j k) in
-      (omega (arith, state-of j k, r .0), omega (arith, state-of j k, r .1)))
+      (λ k. used-say (View.idAt P j) (View.slotAt P j) z (fit-at f j k))
       (λ k. absurd (omega (arith, past (P .ids) 0 j (omega (arith, w .ids)))))
 
   slots-pass : Blank → InUse → slotsFit cs ts ss ≡ true
   unfolding slotsFit
   slots-pass b u =
-      all-every slotCount (λ i. slotFits (getD cs i 0) (getD cs (slotCount + i) 0) (getD ts i 0) (getD ss i 0)) (λ j k.
-      by-eq (getD cs j 0) 0 (λ e. vacant-pass b j k e) (λ e. used-pass u j k e))
+      all-every slotCount (slotFitsAt cs ts ss) (λ j k. fits-same j k ∙ by-eq (View.idAt P j) 0 (λ e. vacant-pass j e) (λ e. used-pass j (omega (arith, e))))
     where
-      vacant-pass : Blank → (j : ℕ) → j < slotCount → getD cs j 0 ≡ 0
-          → slotFits (getD cs j 0) (getD cs (slotCount + j) 0) (getD ts j 0) (getD ss j 0) ≡ true
-      vacant-pass b j k e =
-          let g = getD cs (slotCount + j) 0 in
-          let t = getD ts j 0 in
-          let s = getD ss j 0 in
-          let v : _≡_ {A = Slot} (slot g t s) vacant = sym (slot-at h cs ts ss ws w j k) ∙ b j (id-of j k ∙ e) in
-          fits-vacant (getD cs j 0) g t s e
-          ∙ both-true (eq-eqb s 0 (ap (λ (x : Slot). x .state) v))
-          (both-true (eq-eqb g 0 (ap (λ (x : Slot). x .generation) v)) (eq-eqb t 0 (ap (λ (x : Slot). x .time) v)))
+      vacant-pass : (j : ℕ) → View.idAt P j ≡ 0 → slotFits (View.idAt P j) (View.slotAt P j) ≡ true
+      vacant-pass j e = fits-vacant (View.idAt P j) (View.slotAt P j) e ∙ ap (λ (s : Slot). isVacant s) (b j e)
 
-      used-pass : InUse → (j : ℕ) → j < slotCount → (getD cs j 0 ≡ 0 → ⊥)
-          → slotFits (getD cs j 0) (getD cs (slotCount + j) 0) (getD ts j 0) (getD ss j 0) ≡ true
-      used-pass u j k e =
-          let r = u j (omega (arith, e, id-of j k)) in
-          fits-used (getD cs j 0) (getD cs (slotCount + j) 0) (getD ts j 0) (getD ss j 0) (omega (arith, e))
-          ∙ both-true (le-leb 1 (getD ss j 0) (omega (arith, state-of j k, r .0))) (le-leb (getD ss j 0) 6 (omega (arith, state-of j k, r .1)))
+      used-pass : (j : ℕ) → 0 < View.idAt P j → slotFits (View.idAt P j) (View.slotAt P j) ≡ true
+      used-pass j z =
+          let k = View.slotAt P j .state in
+          fits-used (View.idAt P j) (View.slotAt P j) z ∙ both-true (le-leb 1 k (u j z .0)) (le-leb k 6 (u j z .1))
 
   -- ── Counts ──
 

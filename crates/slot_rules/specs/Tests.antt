@@ -1,10 +1,14 @@
 -- The rules on slots: what each function of the code gives, said of the columns that it is lent.
+use mathlib.Core.Path.{_≡_}
 use mathlib.Core.Bool.{Bool, true, false, not, _&&_, _||_}
 use mathlib.Core.List.{List}
 use Prim.Native.Nat.{ℕ, zero, suc, _+_}
 use lib.ListN.{getD}
+use borrow.Author.Tests.{eqb-true}
+use Rattle.definition.specs.Booleans.{and-left, and-right}
 use Rattle.definition.specs.Words.{if_then_else_, _=?_, _<?_, _≤?_}
 use Rattle.definition.specs.Pool.{slotCount}
+use Rattle.slots.specs.View.{Slot, slot, vacant}
 use Rattle.refinement.specs.Agree.{Class}
 use Rattle.refinement.specs.Mirror.{isPending}
 use Rattle.refinement.specs.Rules.{isShelved, oneIf}
@@ -28,9 +32,31 @@ among x (suc n) l = among x n l || getD l n 0 =? x
 abbrev pub isTaken : Class
 isTaken k = not (k =? 0)
 
--- where no connection is, all is 0; where one is, it is in a state of a connection
-unfoldable pub slotFits : ℕ → ℕ → ℕ → ℕ → Bool
-slotFits id generation time state = if id =? 0 then state =? 0 && (generation =? 0 && time =? 0) else 1 ≤? state && state ≤? 6
+-- all is 0
+abbrev pub isVacant : Slot → Bool
+isVacant s = s .state =? 0 && (s .generation =? 0 && s .time =? 0)
+
+-- which only the vacant slot is
+zero-first : (n : ℕ) (b : Bool) → (n =? 0 && b) ≡ true → (n ≡ 0) × (b ≡ true)
+zero-first n b h = (eqb-true n 0 (and-left (n =? 0) b h), and-right (n =? 0) b h)
+
+pub vacant-only : (s : Slot) → isVacant s ≡ true → s ≡ vacant
+vacant-only s h =
+    let k = zero-first (s .state) (s .generation =? 0 && s .time =? 0) h in
+    let g = zero-first (s .generation) (s .time =? 0) (k .1) in
+    let t = eqb-true (s .time) 0 (g .1) in
+    rw (k .0, g .0, t)
+
+-- where no connection is, the slot is vacant; where one is, it is in a state of a connection
+unfoldable pub slotFits : ℕ → Slot → Bool
+slotFits id s = if id =? 0 then isVacant s else 1 ≤? s .state && s .state ≤? 6
+
+-- what the columns hold of slot i, and whether it fits: no other test of slots names its columns
+abbrev pub slotIn : (numbers times states : List ℕ) → ℕ → Slot
+slotIn numbers times states i = slot (getD numbers (slotCount + i) 0) (getD times i 0) (getD states i 0)
+
+abbrev pub slotFitsAt : (numbers times states : List ℕ) → ℕ → Bool
+slotFitsAt numbers times states i = slotFits (getD numbers i 0) (slotIn numbers times states i)
 
 -- ── The rules ──────────────────────────────────────────────────────────────────────────────────────────────────────────
 
@@ -45,7 +71,7 @@ unfoldable pub idsDistinct : List ℕ → Bool
 idsDistinct numbers = every slotCount (newId numbers)
 
 unfoldable pub slotsFit : List ℕ → List ℕ → List ℕ → Bool
-slotsFit numbers times states = every slotCount (λ i. slotFits (getD numbers i 0) (getD numbers (slotCount + i) 0) (getD times i 0) (getD states i 0))
+slotsFit numbers times states = every slotCount (slotFitsAt numbers times states)
 
 abbrev pub howMany : Class → List ℕ → ℕ
 howMany t states = tally slotCount (λ i. t (getD states i 0))

@@ -4,6 +4,7 @@ ghost use mathlib.Core.Bool.{_&&_, not};
 ghost use Prim.Native.Nat.{_≤_};
 ghost use Rattle.definition.specs.Pool.{slotCount};
 ghost use Rattle.definition.specs.Words.{_=?_, _<?_};
+ghost use Rattle.slots.specs.View.{slot};
 ghost use Rattle.refinement.specs.Mirror.{isPending};
 ghost use Rattle.refinement.specs.Rules.{isShelved, oneIf};
 ghost use Rattle.slot_rules.specs.Tests.{among, isTaken, slotFits, idsBelow, idsDistinct, slotsFit, countsRight};
@@ -52,7 +53,7 @@ fn below(x: u32, y: u32) -> bool
 }
 
 fn slot_fits(id: u32, generation: u32, time: u64, state: u8) -> bool
-    ensures { λ r. ⌜ r ≡ slotFits id generation time state ⌝ }
+    ensures { λ r. ⌜ r ≡ slotFits id (slot generation time state) ⌝ }
 {
     if id == 0 {
         return both(state == 0, both(generation == 0, time == 0));

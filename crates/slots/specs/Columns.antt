@@ -3,8 +3,8 @@ use mathlib.Core.Path.{_≡_, refl, ap, sym, _∙_}
 use mathlib.Core.List.{List, [], _∷_, _++_, map}
 use Prim.Native.Nat.{ℕ, zero, suc, _+_, _*_, _-_, _≤_, _<_}
 use native.Mathlib.Omega.{arith}
-use lib.ListN.{length, getD, set, take, drop, length-drop, length-take, replicate, take-append-drop}
-use lib.Seq.{getD-take, getD-drop, take-set-le, take-set-lt, drop-set-lt, drop-set-add, take-at, drop-at, take-all, drop-drop}
+use lib.ListN.{length, getD, set, take, drop, length-drop, length-take, length-set, replicate, take-append-drop}
+use lib.Seq.{getD-take, getD-drop, take-set-le, take-set-lt, drop-set-lt, drop-set-add, take-at, drop-at, drop-drop}
 use Rattle.definition.specs.Pool.{slotCount}
 
 -- ── Columns in one array ───────────────────────────────────────────────────────────────────────────────────────────────
@@ -72,29 +72,90 @@ pub column-blank : (k m : ℕ) → offset k + slotCount ≤ m → column k (repl
 unfolding column
 column-blank k m h = part-blank (offset k) slotCount m 0 h
 
--- columns that were joined: the first, those behind it, and one alone
-module _ (a b : List ℕ) (long : length a ≡ slotCount) where
-  pub column-first : column 0 (a ++ b) ≡ a
-  unfolding column
-  column-first = take-at a b slotCount long
+-- columns joined to one array
+unfoldable pub joined : List (List ℕ) → List ℕ
+joined [] = []
+joined (c ∷ cs) = c ++ joined cs
 
-  pub column-later : (k : ℕ) → column (suc k) (a ++ b) ≡ column k b
-  unfolding column
-  column-later k =
-      let e : offset (suc k) ≡ slotCount + offset k = omega arith in
-      ap (λ (n : ℕ). take slotCount (drop n (a ++ b))) e
-      ∙ ap (take slotCount) (sym (drop-drop (offset k) slotCount (a ++ b)) ∙ ap (drop (offset k)) (drop-at a b slotCount long))
+-- each of slotCount cells
+abbrev pub Long : List (List ℕ) → Type 0
+Long [] = Unit {0}
+Long (c ∷ cs) = (length c ≡ slotCount) × Long cs
 
-pub column-only : (b : List ℕ) → length b ≡ slotCount → column 0 b ≡ b
+pub long-at : (cs : List (List ℕ)) → Long cs → (k : ℕ) → k < length cs → length (getD cs k []) ≡ slotCount
+long-at [] w k h = absurd (omega arith)
+long-at (c ∷ cs) w zero h = w .0
+long-at (c ∷ cs) w (suc k) h = long-at cs (w .1) k (omega arith)
+
+-- a column without the first one
+column-later : (k : ℕ) (l : List ℕ) → column (suc k) l ≡ column k (drop slotCount l)
 unfolding column
-column-only b e = take-all slotCount b (omega arith)
+column-later k l =
+    let e : offset (suc k) ≡ slotCount + offset k = omega arith in
+    ap (λ (n : ℕ). take slotCount (drop n l)) e ∙ ap (take slotCount) (sym (drop-drop (offset k) slotCount l))
 
--- and an array of two is its columns joined
-pub two-columns : (l : List ℕ) → length l ≡ 2 * slotCount → l ≡ column 0 l ++ column 1 l
-unfolding column
-two-columns l e =
+-- column k of those that were joined is the one that stands there
+pub column-joined : (cs : List (List ℕ)) → Long cs → (k : ℕ) → k < length cs → column k (joined cs) ≡ getD cs k []
+unfolding column joined
+column-joined [] w k h = absurd (omega arith)
+column-joined (c ∷ cs) w zero h = take-at c (joined cs) slotCount (w .0)
+column-joined (c ∷ cs) w (suc k) h =
+    column-later k (c ++ joined cs) ∙ ap (column k) (drop-at c (joined cs) slotCount (w .0)) ∙ column-joined cs (w .1) k (omega arith)
+
+-- and an array is its columns joined
+pub joined-columns : (cs : List (List ℕ)) (l : List ℕ) → length l ≡ length cs * slotCount → ((k : ℕ) → k < length cs → column k l ≡ getD cs k []) → l ≡ joined cs
+unfolding column joined
+joined-columns [] [] e h = refl
+joined-columns [] (x ∷ l) e h = absurd (omega arith)
+joined-columns (c ∷ cs) l e h =
     sym (take-append-drop slotCount l)
-    ∙ ap (λ (r : List ℕ). take slotCount l ++ r) (sym (take-all slotCount (drop slotCount l) (simp length-drop (omega arith))))
+    ∙ ap (λ (r : List ℕ). r ++ drop slotCount l) (h 0 (omega arith))
+    ∙ ap (λ (r : List ℕ). c ++ r)
+    (joined-columns cs (drop slotCount l) (simp length-drop (omega arith)) (λ k low. sym (column-later k l) ∙ h (suc k) (omega arith)))
+
+-- ── A row: cell i of one column after the other is set ─────────────────────────────────────────────────────────────────
+
+-- where cell i of column k stands, as code writes it
+abbrev pub place : (k i : ℕ) → ℕ
+place zero i = i
+place (suc k) i = offset (suc k) + i
+
+place-is : (k i : ℕ) → place k i ≡ offset k + i
+place-is zero i = omega arith
+place-is (suc k) i = refl
+
+-- from column m on
+abbrev pub rowFrom : (m i : ℕ) → List ℕ → List ℕ → List ℕ
+rowFrom m i [] l = l
+rowFrom m i (v ∷ vs) l = rowFrom (suc m) i vs (set l (place m i) v)
+
+abbrev pub row : ℕ → List ℕ → List ℕ → List ℕ
+row = rowFrom 0
+
+pub row-long : (m i : ℕ) (vs l : List ℕ) → length (rowFrom m i vs l) ≡ length l
+row-long m i [] l = refl
+row-long m i (v ∷ vs) l = row-long (suc m) i vs (set l (place m i) v) ∙ length-set l (place m i) v
+
+module _ (i : ℕ) (low : i < slotCount) where
+  -- the columns before it stay
+  row-kept : (m : ℕ) (vs l : List ℕ) (k : ℕ) → k < m → column k (rowFrom m i vs l) ≡ column k l
+  row-kept m [] l k h = refl
+  row-kept m (v ∷ vs) l k h =
+      row-kept (suc m) vs (set l (place m i) v) k (omega arith)
+      ∙ column-behind k l (place m i) v (omega (arith, place-is m i))
+
+  -- each of the others gets its cell
+  row-from : (m : ℕ) (vs l : List ℕ) (k n : ℕ) → k ≡ m + n → n < length vs → column k (rowFrom m i vs l) ≡ set (column k l) i (getD vs n 0)
+  row-from m [] l k n e h = absurd (omega arith)
+  row-from m (v ∷ vs) l k zero e h =
+      row-kept (suc m) vs (set l (place m i) v) k (omega arith)
+      ∙ column-set k l i (place m i) v (omega (arith, place-is m i)) low
+  row-from m (v ∷ vs) l k (suc n) e h =
+      row-from (suc m) vs (set l (place m i) v) k n (omega arith) (omega arith)
+      ∙ ap (λ (c : List ℕ). set c i (getD vs n 0)) (column-before k l (place m i) v (omega (arith, place-is m i)))
+
+  pub row-at : (vs l : List ℕ) (k : ℕ) → k < length vs → column k (row i vs l) ≡ set (column k l) i (getD vs k 0)
+  row-at vs l k h = row-from 0 vs l k k (omega arith) h
 
 -- ── Columns side by side ───────────────────────────────────────────────────────────────────────────────────────────────
 

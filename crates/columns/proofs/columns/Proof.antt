@@ -17,9 +17,9 @@ abbrev μ-loop : tie.MeasureT-loop
 loop-holds : tie.Need-loop-holds Inv-loop μ-loop
 loop-holds c = record {
   some = omega arith;
-  numbers = columns-start _ _ _ refl;
+  numbers = columns-start _ _ refl;
   times = record { long = refl; front = refl };
-  states = columns-start _ _ _ refl;
+  states = columns-start _ _ refl;
 }
 
 mul-s : tie.Need-mul-s Inv-loop μ-loop

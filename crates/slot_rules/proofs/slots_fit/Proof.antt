@@ -1,16 +1,14 @@
-use Prim.Native.Nat.{_-_, _+_}
+use Prim.Native.Nat.{_-_}
 use native.Mathlib.Omega.{arith}
-use lib.ListN.{getD}
 use Rattle.definition.specs.Pool.{slotCount}
-use Rattle.slot_rules.specs.Tests.{slotFits, slotsFit}
+use Rattle.slot_rules.specs.Tests.{slotsFit, slotFitsAt}
 use Rattle.slot_rules.proofs.Laws.{Testing, testing-start, testing-more, testing-end}
 use borrow.Author.Needs.{needs}
 use Rattle.slot_rules.proofs.slots_fit.Statement.{statement}
 use Rattle.slot_rules.proofs.slots_fit.Tie as tie
 
 abbrev Inv-loop : tie.InvT-loop
-Inv-loop numbers times states ok₀ i₀ ok i =
-    Testing slotCount (λ j. slotFits (getD numbers j 0) (getD numbers (slotCount + j) 0) (getD times j 0) (getD states j 0)) i ok
+Inv-loop numbers times states ok₀ i₀ ok i = Testing slotCount (slotFitsAt numbers times states) i ok
 
 abbrev μ-loop : tie.MeasureT-loop
 μ-loop numbers times states ok₀ i₀ ok i = slotCount - i

@@ -9,7 +9,7 @@ use Rattle.definition.specs.Bytes.{serialOf, recordBytes}
 use Rattle.definition.specs.Steps.{_>>_}
 use Rattle.slots.specs.Laid.{laid}
 use Rattle.slots.specs.Order.{vacantSlot}
-use Rattle.slots.specs.View.{SlotPool, slot, vacant, poolOf, withCounts, withNextId, idsIn, Puts}
+use Rattle.slots.specs.View.{SlotPool, vacant, poolOf, withCounts, withNextId, idsIn, Puts, newSlot}
 use Rattle.slots.specs.Done.{lay, Done}
 use Rattle.slots.specs.Codes.{reasonOf}
 use Rattle.slots.specs.CodeLaws.{reason-number}
@@ -32,7 +32,7 @@ module _ (h : Head) (ns ts ss ws : List ℕ) {s n : ℕ} {l k : List ℕ} {ns' t
 
   pub created-done : (i state x : ℕ) → i ≡ vacantSlot (idsIn ns) → x ≡ h .«next_connection_id»
       → k ≡ laid l (16 * n) (recordBytes (serialOf (s + n)) (fields 1 0 x 0))
-      → Puts i (h .«next_connection_id») (slot (h .status .generation) (h .clock) state) ns ts ss ns' ts' ss'
+      → Puts i (h .«next_connection_id») (newSlot (poolOf h ns ts ss ws) state) ns ts ss ns' ts' ss'
       → (q : SlotPool)
       → q ≡ withCounts (withNextId (poolOf h ns' ts' ss' ws) (h .«next_connection_id» + 1)) (h .«total_connection_count» + 1) (h .«pending_connection_count» + 1)
       → Done (createPendingConnection state (poolOf h ns ts ss ws)) s n l q (n + 1) k

@@ -64,15 +64,15 @@ module _ {S O : Type 0} (m : Machine S O) where
 -- ── Its life ───────────────────────────────────────────────────────────────────────────────────────────────────────────────
 
 -- the text that was read so far, and what was written
-pub record Told (budget : ℕ) (text log : List ℕ) (s : Session) : Type 0 where
+pub record SoFar (budget : ℕ) (text log : List ℕ) (s : Session) : Type 0 where
   pub fed : feed onSlots (opening budget) text ≡ record { view = viewIn s; out = log; rest = [] }
 
-pub told-begin : (budget : ℕ) (s : Session) → Begins budget s → Told budget [] [] s
-told-begin budget s b = record { fed = feed-nil onSlots (opening budget) ∙ ap (λ (v : View Play). stop v []) (sym (b .view)) }
+pub so-far-begin : (budget : ℕ) (s : Session) → Begins budget s → SoFar budget [] [] s
+so-far-begin budget s b = record { fed = feed-nil onSlots (opening budget) ∙ ap (λ (v : View Play). stop v []) (sym (b .view)) }
 
-pub told-more : (budget : ℕ) (text log : List ℕ) (s : Session) (piece before after : List ℕ) (s' : Session) (n w : ℕ) → Told budget text log s
-    → Went s piece before after s' n w → Told budget (text ++ take n piece) (log ++ take w after) s'
-told-more budget text log s piece before after s' n w t g =
+pub so-far-more : (budget : ℕ) (text log : List ℕ) (s : Session) (piece before after : List ℕ) (s' : Session) (n w : ℕ) → SoFar budget text log s
+    → Went s piece before after s' n w → SoFar budget (text ++ take n piece) (log ++ take w after) s'
+so-far-more budget text log s piece before after s' n w t g =
     let r = g .read in
     let k : Fed Play ℕ = goOn onSlots (length before) (viewIn s) piece in
     let o : k .out ≡ take w after = sym (ap (take w) (r .laid) ∙ take-at (k .out) (drop w before) w (sym (r .written))) in
@@ -84,9 +84,9 @@ told-more budget text log s piece before after s' n w t g =
     }
 
 -- all that was written is the log of all that was read
-pub told-end : (budget : ℕ) (text log : List ℕ) (s : Session) (before after : List ℕ) (u n : ℕ) → Told budget text log s
+pub so-far-end : (budget : ℕ) (text log : List ℕ) (s : Session) (before after : List ℕ) (u n : ℕ) → SoFar budget text log s
     → Finishes (finish onSlots (viewIn s .state) (viewIn s .held)) before after u n → (log ++ take n after ≡ logOf budget text) × (u ≡ framesUsed budget text)
-told-end budget text log s before after u n t g =
+so-far-end budget text log s before after u n t g =
     let f : Took Play ℕ = finish onSlots (viewIn s .state) (viewIn s .held) in
     let o : take n after ≡ f .out = ap (take n) (g .laid) ∙ take-at (f .out) (drop n before) n (sym (g .written)) in
     let w : Writes (ended onSlots (record { view = viewIn s; out = log; rest = [] })) budget text =

@@ -17,7 +17,7 @@ abbrev pub viewOf : Run → SlotPool → (scratch : List ℕ) → View Play
 viewOf r p l = heldOf (playOf (r .pace) p l) (r .held) (r .count)
 
 -- what is asked of a run, and kept
-pub record Kept (r : Run) (p : SlotPool) : Type 0 where
+pub record Resumable (r : Run) (p : SlotPool) : Type 0 where
   pub holds : Holds (r .held) (r .count)
   pub able : Able (r .pace .phase) p
 
@@ -31,7 +31,7 @@ noOptions = record { maximum = 0; minimum = 0; connecting = 0; idle = 0 }
 -- the answer to any text: n bytes of it were read, and w written
 pub record Read (k : Fed Play ℕ) (text before after : List ℕ) (r : Run) (p : SlotPool) (scratch : List ℕ) (n w : ℕ) : Type 0 where
   pub view : viewOf r p scratch ≡ k .view
-  pub kept : Kept r p
+  pub kept : Resumable r p
   pub rest : drop n text ≡ k .rest
   pub within : n ≤ length text
   pub written : w ≡ length (k .out)

@@ -13,7 +13,7 @@ use Rattle.lines.specs.OnSlots.{lineSlots, lastSlots, onSlots}
 use Rattle.lines.specs.Code.{Ends}
 use Rattle.runs.specs.declared.Run.{Run}
 use Rattle.pieces.specs.Feed.{finish}
-use Rattle.runs.specs.Code.{Kept}
+use Rattle.runs.specs.Code.{Resumable}
 
 finish-none : (s : Play) (b : List ℕ) (n : ℕ) → n ≡ 0 → finish onSlots s (take n b) ≡ lastSlots s
 unfolding finish
@@ -24,7 +24,7 @@ unfolding finish
 finish-some s [] g = absurd (omega arith)
 finish-some s (c ∷ h) g = refl
 
-module _ (r : Run) (p : SlotPool) (sc b a : List ℕ) (k : Kept r p) (n : ℕ) where
+module _ (r : Run) (p : SlotPool) (sc b a : List ℕ) (k : Resumable r p) (n : ℕ) where
   -- nothing is held
   pub end-none : (q : Pace) → r .count ≡ 0 → Ends (r .pace) b a q n
       → Lined (finish onSlots (playOf (r .pace) p sc) (take (r .count) (r .held))) b a (playOf q p sc) n

@@ -20,7 +20,7 @@ use Rattle.runs.specs.declared.Run.{Run}
 use Rattle.pieces.specs.Feed.{View, Fed, stop, joined, joined-joined, goOn}
 use Rattle.pieces.specs.Chunks.{chunkOf, in-chunk, go-room, go-short, go-out}
 use Rattle.pieces.specs.Code.{heldOf, Holds, Pieced}
-use Rattle.runs.specs.Code.{viewOf, Kept, Read}
+use Rattle.runs.specs.Code.{viewOf, Resumable, Read}
 use Rattle.pieces.specs.Held.{piece-quick}
 
 -- in the middle: what was said, and what is left is the reading of the rest
@@ -48,7 +48,7 @@ next text o at w e h r q k =
     let pos : 0 < lineLen (drop at text) = len-positive (drop at text) (simp length-drop (omega arith)) in
     record { room = leb-true lineRoom (length o - w) r; end = q; further = omega arith; within = k }
 
-pub doing-start : (text o : List ℕ) (r : Run) (p : SlotPool) (sc : List ℕ) → Kept r p
+pub doing-start : (text o : List ℕ) (r : Run) (p : SlotPool) (sc : List ℕ) → Resumable r p
     → Doing text o (viewOf r p sc) (playOf (r .pace) p sc) (r .held) (r .count) 0 0 o
 doing-start text o r p sc k =
     let z : length o - 0 ≡ length o = omega arith in

@@ -11,12 +11,12 @@ use Rattle.lines.specs.OnSlots.{onSlots}
 use Rattle.runs.specs.declared.Run.{Run}
 use Rattle.pieces.specs.Feed.{View, goOn}
 use Rattle.pieces.specs.Chunks.{some-less}
-use Rattle.runs.specs.Code.{beginRun, Kept, Read}
+use Rattle.runs.specs.Code.{beginRun, Resumable, Read}
 use Rattle.pieces.specs.Held.{holds-none}
 
 -- a run that begins, whatever stands in the pool's place
-pub begin-kept : (budget : ℕ) (r : Run) (p : SlotPool) → r ≡ beginRun budget → Kept r p
-begin-kept budget r p e = subst (λ (x : Run). Kept x p) (sym e) (record { holds = holds-none; able = tt })
+pub begin-resumable : (budget : ℕ) (r : Run) (p : SlotPool) → r ≡ beginRun budget → Resumable r p
+begin-resumable budget r p e = subst (λ (x : Run). Resumable x p) (sym e) (record { holds = holds-none; able = tt })
 
 -- with room for one event, some of any text is read
 pub read-some : (v : View Play) (text before after : List ℕ) (r : Run) (p : SlotPool) (scratch : List ℕ) (n w : ℕ)

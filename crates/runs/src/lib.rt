@@ -9,7 +9,7 @@ ghost use Rattle.first_line.specs.Took.{lineRoom};
 ghost use Rattle.first_line.specs.Code.{playOf, Lined};
 ghost use Rattle.lines.specs.OnSlots.{onSlots};
 ghost use Rattle.pieces.specs.Feed.{finish, goOn};
-ghost use Rattle.runs.specs.Code.{viewOf, beginRun, noOptions, Kept, Read};
+ghost use Rattle.runs.specs.Code.{viewOf, beginRun, noOptions, Resumable, Read};
 use definition::Options;
 use definition::ROOM_LINES;
 use first_line::Pace;
@@ -49,7 +49,7 @@ pub fn replay_some(
     scratch: &mut [u8],
     out: &mut [u8],
 ) -> Part
-    requires { ⌜ Kept run (given head numbers times states waiters) × (enoughRoom ≤ length (now scratch)) ⌝ }
+    requires { ⌜ Resumable run (given head numbers times states waiters) × (enoughRoom ≤ length (now scratch)) ⌝ }
     ensures { λ r. ⌜ Read (goOn onSlots (length (now (out .entry))) (viewOf run (before head numbers times states waiters) (now (scratch .entry))) (now (text .entry))) (now (text .entry)) (now (out .entry)) (now (out .exit)) (r .run) (after (r .head) numbers times states waiters) (now (scratch .exit)) (r .read) (r .written) ⌝ }
 {
     let mut pace = run.pace;
@@ -147,7 +147,7 @@ pub fn finish(
     scratch: &mut [u8],
     out: &mut [u8],
 ) -> Taken
-    requires { ⌜ Kept run (given head numbers times states waiters) × (enoughRoom ≤ length (now scratch)) × (lineRoom ≤ length (now out)) ⌝ }
+    requires { ⌜ Resumable run (given head numbers times states waiters) × (enoughRoom ≤ length (now scratch)) × (lineRoom ≤ length (now out)) ⌝ }
     ensures { λ r. ⌜ Lined (finish onSlots (playOf (run .pace) (before head numbers times states waiters) (now (scratch .entry))) (take (run .count) (run .held))) (now (out .entry)) (now (out .exit)) (playOf (r .pace) (after (r .head) numbers times states waiters) (now (scratch .exit))) (r .written) ⌝ }
 {
     let pace = run.pace;

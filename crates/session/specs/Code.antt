@@ -11,7 +11,7 @@ use Rattle.first_line.specs.Took.{Took, lineRoom}
 use Rattle.first_line.specs.OnSlots.{Play}
 use Rattle.lines.specs.OnSlots.{onSlots}
 use Rattle.pieces.specs.Feed.{View, emptied, goOn}
-use Rattle.runs.specs.Code.{viewOf, noOptions, Kept, Read}
+use Rattle.runs.specs.Code.{viewOf, noOptions, Resumable, Read}
 use Rattle.session.specs.declared.Session.{Session}
 
 -- the pool, and the machine's state with what is held
@@ -23,7 +23,7 @@ viewIn s = viewOf (s .run) (poolIn s) (s .scratch)
 
 -- what is asked of a session, and kept
 pub record Ready (s : Session) : Type 0 where
-  pub kept : Kept (s .run) (poolIn s)
+  pub kept : Resumable (s .run) (poolIn s)
   pub long : length (s .scratch) ≡ enoughRoom
 
 -- before the options line, whatever stands in the pool's place

@@ -15,7 +15,7 @@ use Rattle.lines.specs.OnSlots.{onSlots}
 use Rattle.pieces.specs.Feed.{emptied, goOn}
 use Rattle.runs.specs.declared.Run.{Run}
 use Rattle.runs.specs.Code.{viewOf, beginRun, noOptions, Read}
-use Rattle.runs.specs.Resumed.{begin-kept, read-some}
+use Rattle.runs.specs.Resumed.{begin-resumable, read-some}
 use Rattle.session.specs.declared.Session.{Session}
 use Rattle.session.specs.Code.{poolIn, viewIn, begun, Begins, Went, Finishes}
 
@@ -27,7 +27,7 @@ begins budget s e g p l =
       view = ap (λ (x : Run). viewOf x (poolIn s) (s .scratch)) e
           ∙ ap (λ (x : SlotPool). emptied (begun budget x (s .scratch))) (p ∙ ap overBlank g ∙ fresh-parts noOptions)
           ∙ ap (λ (x : List ℕ). emptied (begun budget (freshSlots noOptions) x)) l;
-      ready = record { kept = begin-kept budget (s .run) (poolIn s) e; long = ap length l ∙ length-replicate {A = ℕ} enoughRoom 0 };
+      ready = record { kept = begin-resumable budget (s .run) (poolIn s) e; long = ap length l ∙ length-replicate {A = ℕ} enoughRoom 0 };
     }
 
 pub went : (s₀ : Session) (text before after : List ℕ) (s : Session) (n w : ℕ)

@@ -4,7 +4,7 @@ use native.Mathlib.Omega.{arith}
 use lib.ListN.{length}
 use Rattle.slots.specs.View.{SlotPool, poolOf}
 use Rattle.refinement.specs.Stands.{Formed}
-use Rattle.bench.specs.Kept.{kept-formed}
+use Rattle.bench.specs.Formed.{kept-formed}
 use borrow.Author.Needs.{needs}
 use Rattle.bench.proofs.all.Statement.{statement}
 use Rattle.bench.proofs.all.Tie as tie

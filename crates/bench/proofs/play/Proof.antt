@@ -1,4 +1,4 @@
-use Rattle.bench.specs.Kept.{starts-formed}
+use Rattle.bench.specs.Formed.{starts-formed}
 use borrow.Author.Needs.{needs}
 use Rattle.bench.proofs.play.Statement.{statement}
 use Rattle.bench.proofs.play.Tie as tie

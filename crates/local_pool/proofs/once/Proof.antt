@@ -1,4 +1,4 @@
--- `entry_main::once` meets its contract: a walk of its MIR, by hand.
+-- `local_pool::once` meets its contract: a walk of its MIR, by hand.
 use mathlib.Core.Path.{_≡_, refl, ap}
 use Prim.Native.Nat.{ℕ}
 use mathlib.Core.List.{[], _∷_, List}
@@ -55,10 +55,10 @@ use Rattle.in_place.proofs.event as event
 use Rattle.in_place.proofs.event.Symbol as event-def
 use Rattle.in_place.proofs.event.Symbol.{name as #event}
 use Rattle.in_place.proofs.event.Met as event-thm
-use Rattle.entry_main.proofs.once.Key.{name as #once}
-use Rattle.entry_main.proofs.once as once
-use Rattle.entry_main.proofs.once.Statement as stated
-use Rattle.entry_main.proofs.once.Code as code
+use Rattle.local_pool.proofs.once.Key.{name as #once}
+use Rattle.local_pool.proofs.once as once
+use Rattle.local_pool.proofs.once.Statement as stated
+use Rattle.local_pool.proofs.once.Code as code
 
 abbrev stayed : Stays (once.ended .signature .params) (once.ended .kept)
 stayed = (stay-none (λ _. T.the-row) yes, (stay-none-slice (0 ∷ []) tt (plain (λ _. u8)) yes, (gave-slice (1 ∷ []) tt (plain (λ _. u8)), tt)))

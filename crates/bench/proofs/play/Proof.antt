@@ -4,7 +4,7 @@ use Rattle.bench.proofs.play.Statement.{statement}
 use Rattle.bench.proofs.play.Tie as tie
 use Rattle.bench.proofs.play.Reads as reads
 use Rattle.bench.proofs.play.Lts as lts
-use Rattle.bench.proofs.all.Reads as all-reads
+use Rattle.frame_loop.proofs.all.Reads as all-reads
 use Rattle.bench.proofs.say.Reads as say-reads
 use Rattle.pool.proofs.Pool.new.Reads as new-reads
 use Rattle.pool.proofs.fresh_head.Reads as fresh-head-reads

@@ -4,12 +4,12 @@ use native.Mathlib.Omega.{arith}
 use lib.ListN.{length}
 use Rattle.slots.specs.View.{SlotPool, poolOf}
 use Rattle.refinement.specs.Stands.{Formed}
-use Rattle.bench.specs.Formed.{kept-formed}
+use Rattle.frame_loop.specs.Formed.{kept-formed}
 use borrow.Author.Needs.{needs}
-use Rattle.bench.proofs.all.Statement.{statement}
-use Rattle.bench.proofs.all.Tie as tie
-use Rattle.bench.proofs.all.Reads as reads
-use Rattle.bench.proofs.all.Lts as lts
+use Rattle.frame_loop.proofs.all.Statement.{statement}
+use Rattle.frame_loop.proofs.all.Tie as tie
+use Rattle.frame_loop.proofs.all.Reads as reads
+use Rattle.frame_loop.proofs.all.Lts as lts
 use Rattle.entry.proofs.step.Reads as step-reads
 use Rattle.event.proofs.call.Reads as call-reads
 use Rattle.io.proofs.read_full.Reads as read-full-reads

@@ -32,7 +32,7 @@ pub fn can_service_connection_request(head: Head) -> bool
     false
 }
 
-// Warm with total at or above minimum: 18.
+// A warming request has nothing to do once the minimum is there.
 pub fn check_out(
     head: Head,
     numbers: &mut Numbers,

@@ -11,8 +11,8 @@ use Rattle.definition.specs.declared.ConnectionState.the-variants.{Vacant}
 use Rattle.slots.specs.View as Of
 use Rattle.slots.specs.Columns.{column, column-at, first-at, column-long, joined, Long, long-at, joined-columns, row, row-long, row-at, zip-at, zip-long}
 use Rattle.slots.specs.Parts.{slots-long, slots-at}
-use Rattle.slots.specs.View.{vacant}
-use Rattle.columns.specs.View.{timeOf, codeOf, cellsBy, columnsBy, numberFields, numberColumns, stateColumns, timesOf, numbersLong, statesLong, valueAt, slotValues, columnsOf, tableOf}
+use Rattle.slots.specs.View.{vacant, numbersLength, statesLength}
+use Rattle.columns.specs.View.{timeOf, codeOf, cellsBy, columnsBy, numberFields, numberColumns, stateColumns, timesOf, valueAt, slotValues, columnsOf, tableOf}
 use Rattle.columns.specs.Laws.{numbers-long, states-long}
 use Rattle.pool.specs.declared.Slot.{Slot}
 use Rattle.columns.specs.declared.Parts.{Parts}
@@ -136,7 +136,7 @@ pub record Putting (numbers times states : List ℕ) (i : ℕ) (ss : List Slot) 
   pub slots : Column (slotValues numbers times states) ss i
   pub available : Column (Of.orderIn states) av i
 
-module _ (numbers times states : List ℕ) (ln : length numbers ≡ numbersLong) (lt : length times ≡ slotCount) (ls : length states ≡ statesLong) where
+module _ (numbers times states : List ℕ) (ln : length numbers ≡ numbersLength) (lt : length times ≡ slotCount) (ls : length states ≡ statesLength) where
   ids-long : length (Of.idsIn numbers) ≡ slotCount
   ids-long = column-long 0 numbers (omega arith)
 

@@ -1,8 +1,8 @@
 -- A pool value as the pool on slots that it is, its columns, and the pool value of a pool on slots.
 use mathlib.Core.List.{List, [], _∷_, map}
-use Prim.Native.Nat.{ℕ, _+_, _*_}
-use lib.ListN.{length, getD}
-use Rattle.definition.specs.Pool.{slotCount, stateNo, stateOfNo}
+use Prim.Native.Nat.{ℕ}
+use lib.ListN.{getD}
+use Rattle.definition.specs.Pool.{stateNo, stateOfNo}
 use Rattle.slots.specs.Columns.{joined, zip}
 use Rattle.slots.specs.View as Of
 use Rattle.slots.specs.View.{SlotPool}
@@ -57,13 +57,6 @@ numberColumns = columnsBy numberFields
 abbrev pub stateColumns : List Slot → List ℕ → List (List ℕ)
 stateColumns ss available = map codeOf ss ∷ available ∷ []
 
--- so long are the two arrays
-abbrev pub numbersLong : ℕ
-numbersLong = length numberFields * slotCount
-
-abbrev pub statesLong : ℕ
-statesLong = 2 * slotCount
-
 abbrev pub numbersOf : List Slot → List ℕ
 numbersOf ss = joined (numberColumns ss)
 
@@ -81,13 +74,16 @@ columnsOf ss available = record { numbers = numbersOf ss; times = timesOf ss; st
 abbrev pub slotOf : (id generation time state : ℕ) → Slot
 slotOf id generation time state = record { id = id; generation = generation; time = time; state = stateOfNo state }
 
+abbrev pub withId : ℕ → Of.Slot → Slot
+withId x s = slotOf x (s .generation) (s .time) (s .state)
+
 -- what the columns hold of slot i
 abbrev pub valueAt : (numbers times states : List ℕ) → ℕ → Slot
-valueAt numbers times states i = slotOf (getD numbers i 0) (getD numbers (slotCount + i) 0) (getD times i 0) (getD states i 0)
+valueAt numbers times states i = withId (getD numbers i 0) (Of.slotIn numbers times states i)
 
 -- an id beside what its slot holds
 abbrev pub together : List ℕ → List Of.Slot → List Slot
-together = zip (λ (x : ℕ) (s : Of.Slot). slotOf x (s .generation) (s .time) (s .state))
+together = zip withId
 
 -- the slots of the columns, and the available ones
 abbrev pub slotValues : (numbers times states : List ℕ) → List Slot

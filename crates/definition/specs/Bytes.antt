@@ -26,14 +26,14 @@ at8 l i = at4 l i * 4294967296 + at4 l (i + 4)
 
 -- ── Frames ─────────────────────────────────────────────────────────────────────────────────────────────────────────────
 
--- kind, flags, two zero bytes, id (4), now (8), second time (8)
+-- a byte each for the kind, the flags and two zeros, then the id in 4 and the two times in 8 each
 unfoldable pub frameBytes : Event → (now : ℕ) → List ℕ
 frameBytes e now = partsOf e .kind ∷ partsOf e .flags ∷ 0 ∷ 0 ∷ (be4 (partsOf e .id) ++ (be8 now ++ be8 (partsOf e .second)))
 
 abbrev pub need : Bool → Frame → Frame
 need b f = if b then f else Bad
 
--- unused fields and flag bits are 0: here flags and second time, and here the id too
+-- what a kind has no use for is 0: the flags and the second time, and below the id as well
 abbrev pub plain : (flags second : ℕ) → Frame → Frame
 plain flags second f = need (flags =? 0) (need (second =? 0) f)
 

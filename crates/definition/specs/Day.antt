@@ -17,7 +17,7 @@ abbrev pub before : ℕ → List (List ℕ) → List (List ℕ)
 before c [] = (c ∷ []) ∷ []
 before c (l ∷ ls) = (c ∷ l) ∷ ls
 
--- a line ends at its newline, whatever its length; bytes after the last newline are one more line
+-- each newline ends one, however long it is; what stands behind the last newline is a line too
 unfoldable pub linesOf : List ℕ → List (List ℕ)
 linesOf [] = []
 linesOf (c ∷ t) = if c =? newline then (c ∷ []) ∷ linesOf t else before c (linesOf t)

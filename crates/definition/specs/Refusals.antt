@@ -65,7 +65,7 @@ infix 3 _if_
 abbrev pub requestTests : Pool → ℕ → List Test
 requestTests p n = (OldRequest if n ≤? p .lastRequest) ∷ (QueueFull if queueLength ≤? length (p .waiting)) ∷ []
 
--- 9: after now, or before the last accepted event that named, created or lent the connection
+-- 9: a time that is still to come, or that lies before the connection was last made, lent or named by an event that was taken
 abbrev pub wrongTime : (second last now : ℕ) → Bool
 wrongTime second last now = now <? second || second <? last
 
@@ -97,7 +97,7 @@ kindTests p Close now = []
 abbrev pub takenAfterClose : Event → Bool
 takenAfterClose e = kindNo e =? 4 || 7 to 9 holds kindNo e || 12 to 14 holds kindNo e
 
--- 5: pool open, kind not 15, and next connection id above lastNextId; or kind 5 at the last generation
+-- 5: an event other than the close might run out of ids on a pool that is not closed; or a clear has no generation left
 abbrev pub numbersSpent : Pool → Event → Bool
 numbersSpent p e =
     not (isClosed (p .state)) && not (kindNo e =? 15) && lastNextId <? p .nextId || kindNo e =? 5 && p .generation =? lastGeneration

@@ -31,31 +31,31 @@ if-both {b = false} P f g = g refl
 -- ── Check-in ───────────────────────────────────────────────────────────────────────────────────────────────────────────
 
 module _ (n letGo : ℕ) (p : Pool) where
-  -- errored closes with 3, whatever the generation and whether or not it is executing,
+  -- an error comes first, whatever the generation is and be an answer under way or not;
   pub errored-first : (executing : Bool) → isClosed (p .state) ≡ false
       → checkIn n true executing letGo p .records ≡ ConnectionCheckedIn n ∷ ConnectionClosed Error n 0 ∷ []
   unfolding checkIn leaveLent if_then_else_ _>>_
   errored-first executing h = rw h
 
-  -- else stale with 2, even if executing,
+  -- another generation than the pool's second, be an answer under way or not;
   pub stale-second : (executing : Bool) → isClosed (p .state) ≡ false → stale p (find n (p .lent)) ≡ true
       → checkIn n false executing letGo p .records ≡ ConnectionCheckedIn n ∷ ConnectionClosed Stale n 0 ∷ []
   unfolding checkIn leaveLent if_then_else_ _>>_
   stale-second executing h s = rw (h, s)
 
-  -- else executing with 4,
+  -- an answer that is under way third;
   pub executing-third : isClosed (p .state) ≡ false → stale p (find n (p .lent)) ≡ false
       → checkIn n false true letGo p .records ≡ ConnectionCheckedIn n ∷ ConnectionClosed Dropped n 0 ∷ []
   unfolding checkIn leaveLent if_then_else_ _>>_
   executing-third h s = rw (h, s)
 
-  -- else to the back of the available list as it was, available since it was let go
+  -- and any other joins those available as they were, last of all, since its user let it go
   pub healthy-last : isClosed (p .state) ≡ false → stale p (find n (p .lent)) ≡ false
       → checkIn n false false letGo p .pool .available ≡ p .available ∷ʳ withState CheckedIn letGo (find n (p .lent))
   unfolding checkIn leaveLent shelve if_then_else_ _>>_
   healthy-last h s = rw (h, s)
 
-  -- of a closed pool only closed 5, whatever the flags
+  -- a closed pool says only that it closed it, whichever of these holds
   pub closed-alone : (errored executing : Bool) → isClosed (p .state) ≡ true
       → checkIn n errored executing letGo p .records ≡ ConnectionClosed PoolClosed n 0 ∷ []
   unfolding checkIn leaveLent if_then_else_ _>>_

@@ -84,7 +84,8 @@ enter s generation p = become (withStatus p s generation) p
 
 -- ── The steps ──────────────────────────────────────────────────────────────────────────────────────────────────────────
 
--- Check-out, warm: if Ready, to the queue's back. If Paused, reply 19 with the pausing cause; if New, reply 19 with other 0.
+-- A request, plain or warming. A Ready pool lets it wait behind the others; a Paused or a New one answers at once that it is
+-- cleared, and for what cause, 0 where there was none.
 unfoldable pub queue : ℕ → Bool → PoolState → Act Pool
 queue n warm New p = emit (Replied n (Cleared 0)) p
 queue n warm (Paused cause) p = emit (Replied n (Cleared cause)) p
@@ -98,8 +99,9 @@ request n warm p = (become (withLastRequest p n) >> queue n warm (p .state)) p
 unfoldable pub abandon : ℕ → Act Pool
 abandon n p = become (withWaiting p (map (λ w. record { id = w .id; warm = w .warm; abandoned = w .abandoned || w .id =? n }) (p .waiting))) p
 
--- Check-in: record 3, then errored closes with 3, else stale with 2, else executing with 4, else to the back of the available
--- list, available since it was let go. Of a closed pool only closed 5, whatever the flags.
+-- A lent connection comes home, and a record says so. One that met an error is closed, or one of another generation, or one whose
+-- answer is still under way, by the first of these that holds; any other becomes available, last of all, since the time its user
+-- let it go. A closed pool just closes it, whichever of these holds.
 unfoldable pub checkIn : ℕ → (errored executing : Bool) → (letGo : ℕ) → Act Pool
 checkIn n errored executing letGo p =
     let c = find n (p .lent) in
@@ -113,8 +115,8 @@ checkIn n errored executing letGo p =
             shelve c letGo
     ) p
 
--- Clear: on timeout record 8 first, whatever the state. Generation plus 1, state Paused with the new cause. Only if it was
--- Ready: record 6, then every waiter front to back gets 19, an abandoned one 21 in its place.
+-- A clear pauses the pool for its cause and begins a new generation. After a network timeout the interrupt is told before all else,
+-- in any state. Only a Ready pool tells of the clear, and then answers all who wait.
 unfoldable pub clear : (timeout : Bool) → (cause : ℕ) → Act Pool
 clear timeout cause p =
     let generation = p .generation + 1 in
@@ -124,15 +126,15 @@ clear timeout cause p =
       enter (Paused cause) generation
     ) p
 
--- Ready: record 5 if it wasn't Ready, else nothing.
+-- the pool says that it is ready, unless it was
 unfoldable pub markAsReady : Act Pool
 markAsReady p = (if isReady (p .state) then nothing else (emit PoolReady >> enter Ready (p .generation))) p
 
--- 7: record 2, pending becomes lent.
+-- one that was made for a request is ready, and with that lent
 unfoldable pub succeeded : ℕ → Act Pool
 succeeded n p = (emit (ConnectionReady n) >> leavePending n >> lendOut (find n (p .pending))) p
 
--- 8: record 2, to the back of the available list with the opened time, even if stale. Of a closed pool record 2, then closed 5.
+-- one that was made in background is ready, and available since it was opened, be it stale or not; a closed pool then closes it
 unfoldable pub succeededForPool : ℕ → (opened : ℕ) → Act Pool
 succeededForPool n opened p =
     (do
@@ -141,17 +143,17 @@ succeededForPool n opened p =
       if isClosed (p .state) then close PoolClosed n 0 else shelve (find n (p .pending)) opened
     ) p
 
--- 9: closed with 3.
+-- one that could not be made is closed as an error
 unfoldable pub failed : ℕ → Act Pool
 failed n = leavePending n >> close Error n 0
 
--- Maintenance: close from the available front, stale then idle, stopping at the first healthy one;
+-- Maintenance has two parts. The available ones that have perished are closed, in their order, as far as to one that has not;
 unfoldable pub removePerished : (available : List Conn) → Act Pool
 removePerished [] p = nothing p
 removePerished (c ∷ cs) p =
     (if perished p c then (become (withAvailable p cs) >> closePerished c >> removePerished cs) else nothing) p
 
--- then if Ready create background connections while total is below the minimum and pending below max connecting.
+-- and a Ready pool is filled up to its minimum, in background, as far as it may have more pending.
 unfoldable pub ensureMinConnections : Act Pool
 ensureMinConnections p =
     (if isReady (p .state)
@@ -162,11 +164,11 @@ ensureMinConnections p =
 unfoldable pub maintenance : Act Pool
 maintenance p = (removePerished (p .available) >> ensureMinConnections) p
 
--- Pin, return, take change only that connection.
+-- only the one that is pinned, given back or taken again changes
 unfoldable pub repin : ConnectionState → ℕ → Act Pool
 repin s n p = become (withLent p (setState s (p .clock) n (p .lent))) p
 
--- Close: available ones front to back closed with 5, waiters front to back get 20, abandoned ones 21, then record 7.
+-- The close of the pool: what is available is closed, all who wait hear that the pool is gone, and the last record says that it is.
 unfoldable pub shut : Act Pool
 shut p =
     (do
@@ -197,20 +199,22 @@ handle Close = shut
 
 -- ── The service stage ──────────────────────────────────────────────────────────────────────────────────────────────────
 
--- Ready, and an available connection exists, or total is below maximum and pending below max connecting
+-- a Ready pool can serve where a connection is available, or where it may have one more in all and one more pending
 unfoldable pub canService : Pool → Bool
 canService p =
     isReady (p .state) && (some? (p .available) || total p <? p .options .maximum && length (p .pending) <? p .options .connecting)
 
--- Create, then 17. The Rust tests the maximum here; there is always room below it (crate promises, Bound), so no test is left.
+-- One is made for the waiter, and the answer names it. The Rust tests the maximum here; there is always room below it (crate
+-- promises, Bound), so no test is left.
 unfoldable pub establish : Waiter → Act Pool
 establish w p = (createPendingConnection Request >> emit (told (Establishing (p .nextId)) w)) p
 
--- a healthy one: 16; for an abandoned waiter it goes back to the available back with time now
+-- one from the pool is the answer; nobody takes what an abandoned waiter was given, so it is available again, since now
 unfoldable pub lend : Waiter → Conn → Act Pool
 lend w c p = (emit (told (Pooled (c .id)) w) >> (if w .abandoned then shelve c (p .clock) else lendOut c)) p
 
--- Ordinary: take from the available back, closing stale or idle ones, until a healthy one. Otherwise create.
+-- A plain request gets the one that became available last and has not perished; those met before it are closed. Where all have
+-- perished one is made.
 unfoldable pub takeAvailable : Waiter → (backToFront : List Conn) → Act Pool
 takeAvailable w [] p = establish w p
 takeAvailable w (c ∷ cs) p =
@@ -219,7 +223,7 @@ takeAvailable w (c ∷ cs) p =
       if perished p c then closePerished c >> takeAvailable w cs else lend w c
     ) p
 
--- Warm with total at or above minimum: 18.
+-- a warming request has nothing to do once the minimum is there
 unfoldable pub checkOut : Waiter → Act Pool
 checkOut w p =
     (if w .warm

@@ -82,7 +82,7 @@ InTime o =
     → suc (length (poolAfter o before .waiting)) ≤ times puts (next (poolAfter o before) call) later
     → List·Memᴰ n (answered (run (call ∷ later) (poolAfter o before) .records))
 
--- (d) The closed records of one service stage are never more than were available before it, whatever the pool.
+-- (d) A service stage closes no more connections than it found available, in any pool at all.
 abbrev pub FewClosed : Type 0
 FewClosed = (p : Pool) → length (closed (service p .records)) ≤ length (p .available)
 

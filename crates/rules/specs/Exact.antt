@@ -15,7 +15,7 @@ use Rattle.definition.specs.Pool.{queueLength, inRange, slotCount}
 use Rattle.definition.specs.Refusals.{mostNextId}
 use Rattle.definition.specs.declared.Options.{Options}
 use Rattle.slots.specs.declared.Head.{Head}
-use Rattle.slots.specs.View.{SlotPool, Slot, poolOf, Whole, waiterOf, idsIn, orderIn, vacant}
+use Rattle.slots.specs.View.{SlotPool, Slot, poolOf, Whole, waiterOf, idsIn, orderIn, vacant, slotIn}
 use Rattle.slots.specs.View as View
 use Rattle.slots.specs.Needs.{taken}
 use Rattle.slots.specs.Parts.{slot-at}
@@ -25,7 +25,7 @@ use Rattle.refinement.specs.Mirror.{isPending, All, Distinct, Listed, Used, all
 use Rattle.refinement.specs.Alike.{Rises}
 use Rattle.refinement.specs.Stands.{Formed}
 use Rattle.refinement.specs.Rules.{Rules, isShelved, many, rules-formed, formed-rules}
-use Rattle.slot_rules.specs.Tests.{every, tally, among, isTaken, isVacant, vacant-only, slotFits, slotIn, slotFitsAt, idsBelow, newId, idsDistinct, slotsFit, howMany, countsRight}
+use Rattle.slot_rules.specs.Tests.{every, tally, among, isTaken, isVacant, vacant-only, slotFits, slotFitsAt, idsBelow, newId, idsDistinct, slotsFit, howMany, countsRight}
 use Rattle.list_rules.specs.Tests.{blankPast, before, waiterFits, listedAt, orderRight, blankFrom, queueRises}
 use Rattle.rules.specs.Tests.{keepsRules}
 use Rattle.rules.specs.Every.{every-all, all-every, not-among, new-among, all-of, distinct-of, distinct-has, past, tally-same, kinds, many-tally, taken-tally, rises-of, rises-at}

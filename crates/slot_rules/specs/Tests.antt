@@ -8,7 +8,7 @@ use borrow.Author.Tests.{eqb-true}
 use Rattle.definition.specs.Booleans.{and-left, and-right}
 use Rattle.definition.specs.Words.{if_then_else_, _=?_, _<?_, _≤?_}
 use Rattle.definition.specs.Pool.{slotCount}
-use Rattle.slots.specs.View.{Slot, slot, vacant}
+use Rattle.slots.specs.View.{Slot, vacant, slotIn}
 use Rattle.refinement.specs.Agree.{Class}
 use Rattle.refinement.specs.Mirror.{isPending}
 use Rattle.refinement.specs.Rules.{isShelved, oneIf}
@@ -51,10 +51,7 @@ vacant-only s h =
 unfoldable pub slotFits : ℕ → Slot → Bool
 slotFits id s = if id =? 0 then isVacant s else 1 ≤? s .state && s .state ≤? 6
 
--- what the columns hold of slot i, and whether it fits: no other test of slots names its columns
-abbrev pub slotIn : (numbers times states : List ℕ) → ℕ → Slot
-slotIn numbers times states i = slot (getD numbers (slotCount + i) 0) (getD times i 0) (getD states i 0)
-
+-- whether what the columns hold of slot i fits
 abbrev pub slotFitsAt : (numbers times states : List ℕ) → ℕ → Bool
 slotFitsAt numbers times states i = slotFits (getD numbers i 0) (slotIn numbers times states i)
 

@@ -5,8 +5,8 @@ use Prim.Native.Nat.{ℕ, _+_, _≤_, _<_}
 use native.Mathlib.Omega.{arith}
 use lib.ListN.{length, getD, set, replicate}
 use Rattle.definition.specs.Pool.{slotCount}
-use Rattle.slots.specs.Columns.{offset, column, column-at, first-at, column-long, long-column, column-set, column-before, column-behind, column-blank, zip, zip-set, zip-set-second, zip-at, zip-long, zip-fits, zip-map, zip-replicate}
-use Rattle.slots.specs.View.{SlotPool, Slot, slot, vacant, withState, withTable, withAvailable, idAt, slotAt, idsIn, generationsIn, statesIn, orderIn, slotsOf, poolOf, Whole}
+use Rattle.slots.specs.Columns.{column, column-at, first-at, column-long, long-column, column-set, column-before, column-behind, column-blank, zip, zip-set, zip-set-second, zip-at, zip-long, zip-fits, zip-map, zip-replicate}
+use Rattle.slots.specs.View.{SlotPool, Slot, slot, vacant, withState, withTable, withAvailable, idAt, slotAt, idsIn, generationsIn, statesIn, orderIn, slotIn, slotsOf, poolOf, Whole}
 use Rattle.slots.specs.declared.Head.{Head}
 
 -- ── The slots ──────────────────────────────────────────────────────────────────────────────────────────────────────────
@@ -41,7 +41,7 @@ slots-map g t s l ns ss e f = rw (e, f, zip-map slot g t l) (zip-map applied (λ
 
 -- a slot is what the columns hold at its place
 module _ (ns ts ss : List ℕ) (w : length (slotsOf ns ts ss) ≡ slotCount) where
-  pub slots-at : (i : ℕ) → i < slotCount → getD (slotsOf ns ts ss) i vacant ≡ slot (getD ns (offset 1 + i) 0) (getD ts i 0) (getD ss i 0)
+  pub slots-at : (i : ℕ) → i < slotCount → getD (slotsOf ns ts ss) i vacant ≡ slotIn ns ts ss i
   unfolding slotsOf
   slots-at i low =
       let o = zip-fits applied (zip slot (generationsIn ns) ts) (statesIn ss) in
@@ -102,7 +102,7 @@ module _ (h : Head) (ns ts ss ws : List ℕ) where
   pub available-at : (k : ℕ) → k < slotCount → getD (pool .available) k 0 ≡ getD ss (slotCount + k) 0
   available-at k low = column-at 1 ss k low
 
-  pub slot-at : Whole pool → (i : ℕ) → i < slotCount → slotAt pool i ≡ slot (getD ns (slotCount + i) 0) (getD ts i 0) (getD ss i 0)
+  pub slot-at : Whole pool → (i : ℕ) → i < slotCount → slotAt pool i ≡ slotIn ns ts ss i
   slot-at w i low = slots-at ns ts ss (w .slots) i low
 
   pub generation-at : Whole pool → (i : ℕ) → i < slotCount → slotAt pool i .generation ≡ getD ns (slotCount + i) 0

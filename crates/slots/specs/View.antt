@@ -53,7 +53,10 @@ statesIn states = column 0 states
 abbrev pub orderIn : (states : List ℕ) → List ℕ
 orderIn states = column 1 states
 
--- what the columns say of each slot
+-- what the columns hold of slot i, and of each
+abbrev pub slotIn : (numbers times states : List ℕ) → ℕ → Slot
+slotIn numbers times states i = slot (getD numbers (slotCount + i) 0) (getD times i 0) (getD states i 0)
+
 unfoldable pub slotsOf : (numbers times states : List ℕ) → List Slot
 slotsOf numbers times states = zip (λ (f : ℕ → Slot) (s : ℕ). f s) (zip slot (generationsIn numbers) times) (statesIn states)
 

@@ -84,7 +84,7 @@ pub fn remove_perished_connections(
     }
 }
 
-// Maintenance, then: background connections while total is below the minimum and pending below max connecting.
+// The second part of maintenance: the pool is filled up to its minimum, in background, as far as more may be pending.
 pub fn ensure_min_connections(
     head: Head,
     numbers: &mut Numbers,

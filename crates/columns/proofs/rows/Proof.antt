@@ -3,7 +3,7 @@ use mathlib.Core.Path.{_≡_, refl}
 use Prim.Native.Nat.{_-_}
 use native.Mathlib.Omega.{arith}
 use Rattle.definition.specs.Pool.{slotCount}
-use Rattle.columns.specs.View.{numbersLong, statesLong}
+use Rattle.slots.specs.View.{numbersLength, statesLength}
 use Rattle.columns.proofs.Loops.{Putting, putting-more, putting-end}
 use borrow.Author.Needs.{needs}
 use Rattle.columns.proofs.rows.Statement.{statement}
@@ -73,18 +73,18 @@ loop-again : tie.Need-loop-again Inv-loop μ-loop
 loop-again c =
     let a = c .before .before .loop in
     let v = c .before .before .before .before .args in
-    let ln : length (v .t1) ≡ numbersLong = search needs in
+    let ln : length (v .t1) ≡ numbersLength = search needs in
     let lt : length (v .t2) ≡ slotCount = search needs in
-    let ls : length (v .t3) ≡ statesLong = search needs in
+    let ls : length (v .t3) ≡ statesLength = search needs in
     putting-more (v .t1) (v .t2) (v .t3) ln lt ls (a .i) (a .slots) (a .available) (a .inv) (c .slot-of2 .result) (omega arith) (c .slot-of2 .ensures)
 
 returns : tie.Need-returns Inv-loop μ-loop
 returns c =
     let a = c .before .loop in
     let v = c .before .before .before .args in
-    let ln : length (v .t1) ≡ numbersLong = search needs in
+    let ln : length (v .t1) ≡ numbersLength = search needs in
     let lt : length (v .t2) ≡ slotCount = search needs in
-    let ls : length (v .t3) ≡ statesLong = search needs in
+    let ls : length (v .t3) ≡ statesLength = search needs in
     putting-end (v .t1) (v .t2) (v .t3) ln lt ls (a .i) (a .slots) (a .available) (a .inv) (omega (arith, a .inv .some))
 
 pub rows-spec : {M : Type 1} → statement M

@@ -7,6 +7,8 @@ pub mod Sums
 pub mod Conserve
 pub mod Numbered
 pub mod Bound
+pub mod States
+pub mod Reached
 pub mod RecordCounts
 pub mod Promises
 pub mod Proved

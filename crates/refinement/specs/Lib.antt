@@ -3,6 +3,7 @@ pub mod Table
 pub mod Agree
 pub mod Mirror
 pub mod Alike
+pub mod Sites
 pub mod Stands
 pub mod Order
 pub mod Transit

@@ -2,12 +2,12 @@ pub mod Runs
 pub mod Calls
 pub mod Flow
 pub mod Keeps
-pub mod Progress
 pub mod Sums
 pub mod Conserve
 pub mod Numbered
 pub mod Bound
 pub mod RecordCounts
 pub mod Promises
+pub mod Progress
 pub mod Proved
 pub mod GivesBack

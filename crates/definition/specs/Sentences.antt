@@ -1,21 +1,25 @@
 -- Single sentences of the description, each as a law of the steps: what the promises alone would let pass.
 use mathlib.Core.Path.{_≡_, refl, ap, sym, _∙_}
-use mathlib.Core.Bool.{Bool, true, false, true≢false}
+use mathlib.Core.Bool.{Bool, true, false, true≢false, not, _&&_, _||_}
 use mathlib.Core.List.{List, [], _∷_, _++_, map, reverse, append-nil, append-assoc, map-append, reverse-cons, reverse-reverse, List·Memᴰ, List·Memᴰ·head, List·Memᴰ·tail, List·Memᴰ·not-nil, List·Memᴰ·eq-of-singleton, List·Memᴰ·append-cases, List·Memᴰ·cases-cons, Memᴰ·append-right}
 use mathlib.Core.Logic.{_⊎_, inl, inr}
-use Prim.Native.Nat.{ℕ, _+_, _*_, _≤_}
+use mathlib.Core.Option.{none, some}
+use Prim.Native.Nat.{ℕ, _+_, _*_, _≤_, _<_}
 use lib.ListN.{length, length-append}
 use native.Mathlib.Omega.{arith}
-use Rattle.definition.specs.Words.{if_then_else_, _=?_, _∷ʳ_}
-use Rattle.definition.specs.Pool.{Pool, Conn, Waiter, isClosed, stale, perished, find, withState, withAvailable}
+use borrow.Author.Tests.{lt-ltb, le-ltb, le-leb, lt-leb}
+use Rattle.definition.specs.Booleans.{by-lt, no-second}
+use Rattle.definition.specs.Words.{if_then_else_, _<?_, _≤?_, _=?_, _∷ʳ_}
+use Rattle.definition.specs.Pool.{Pool, Conn, Waiter, isClosed, stale, perished, has, hasIn, inBackground, find, withState, withAvailable}
 use Rattle.definition.specs.Records.{Record, ConnectionCreated, ConnectionCheckedIn, ConnectionClosed, Replied, Reply, Pooled, Establishing, Warmed, Unheard, told}
-use Rattle.definition.specs.Steps.{Out, Act, _>>_, nothing, emit, leaveLent, leavePending, shelve, lendOut, createPendingConnection, closePerished, tellAll, enter, abandon, checkIn, clear, repin, shut, succeededForPool, removePerished, establish, lend, takeAvailable, checkOut, serveFront, service, serviced, handle, event}
-use Rattle.definition.specs.Refusals.{refusalNo, Test, _if_, tests}
+use Rattle.definition.specs.Steps.{Out, Act, _>>_, nothing, emit, leaveLent, leavePending, shelve, lendOut, createPendingConnection, closePerished, tellAll, enter, abandon, checkIn, clear, repin, shut, succeededForPool, removePerished, establish, lend, takeAvailable, checkOut, serveFront, service, serviced, handle, event, kindNo}
+use Rattle.definition.specs.Refusals.{refusalNo, Test, _if_, first, tests, kindTests, takenAfterClose, lastGeneration}
 use Rattle.definition.specs.declared.Event.{Event}
 use Rattle.definition.specs.declared.Event.the-variants.{CheckOut, WarmPool, Abandon, CheckIn, Clear, MarkAsReady, Succeeded, SucceededForPool, Failed, Maintenance, FillPool, Pin, ReturnToPinner, TakeFromPinner, Close}
 use Rattle.definition.specs.declared.Frame.{Frame}
 use Rattle.definition.specs.declared.Frame.the-variants.{Good, Bad}
 use Rattle.definition.specs.declared.Refusal.{Refusal}
+use Rattle.definition.specs.declared.Refusal.the-variants.{OutputShort, AfterClose, NumbersSpent, WrongTime}
 use Rattle.definition.specs.declared.PoolState.the-variants.{Paused, Closed}
 use Rattle.definition.specs.declared.ConnectionState.{ConnectionState}
 use Rattle.definition.specs.declared.ConnectionState.the-variants.{CheckedIn, CheckedOut}
@@ -372,6 +376,92 @@ unfolding service
 pooled-was-available p r c =
     if-both (λ (a : Act Pool). List·Memᴰ (Replied r (Pooled c)) (a p .records) → List·Memᴰ c (numbers (p .available)))
     (λ _. serveFront-pooled r c (p .waiting) p) (λ _ m. absurd (List·Memᴰ·not-nil m))
+
+-- ── What is refused, and what is not ───────────────────────────────────────────────────────────────────────────────────
+
+-- too late or too early is not from the one to the other, each of the two included
+outside : {A : Type 0} (time from until : ℕ) (x y : A)
+    → (if until <? time || time <? from then x else y) ≡ (if from ≤? time && time ≤? until then y else x)
+unfolding if_then_else_
+outside time from until x y =
+    by-lt until time
+    (λ a. rw (lt-ltb until time a, lt-leb time until a, no-second (from ≤? time) false refl))
+    (λ a. by-lt time from
+    (λ b. rw (le-ltb until time a, lt-ltb time from b, lt-leb from time b))
+    (λ b. rw (le-ltb until time a, le-ltb time from b, le-leb from time b, le-leb time until a)))
+
+module _ (n second now : ℕ) (p : Pool) where
+  -- a connection may have been let go at any time from its own to now, each of the two included;
+  pub let-go-until-now : (errored executing : Bool) → has n (p .lent) ≡ true
+      → first (kindTests p (CheckIn n errored executing second) now)
+      ≡ (if find n (p .lent) .time ≤? second && second ≤? now then none else some WrongTime)
+  unfolding first if_then_else_
+  let-go-until-now errored executing h = rw h (outside second (find n (p .lent) .time) now _ _)
+
+  -- and so it is with the time at which one that was made in background was opened
+  pub opened-until-now : hasIn inBackground n (p .pending) ≡ true
+      → first (kindTests p (SucceededForPool n second) now)
+      ≡ (if find n (p .pending) .time ≤? second && second ≤? now then none else some WrongTime)
+  unfolding first if_then_else_
+  opened-until-now h = rw h (outside second (find n (p .pending) .time) now _ _)
+
+-- less room than 8,192 bytes is refused before all else
+pub short-output : (p : Pool) (f : Frame) (room : ℕ) → room < 8192 → first (tests p f room) ≡ some OutputShort
+unfolding tests first if_then_else_
+short-output p Bad room h = rw (lt-ltb room 8192 h)
+short-output p (Good e now) room h = rw (lt-ltb room 8192 h)
+
+-- the events that name a connection
+abbrev pub namesConnection : Event → Bool
+namesConnection (CheckOut n) = false
+namesConnection (WarmPool n) = false
+namesConnection (Abandon n) = false
+namesConnection (CheckIn n errored executing letGo) = true
+namesConnection (Clear timeout cause) = false
+namesConnection MarkAsReady = false
+namesConnection (Succeeded n) = true
+namesConnection (SucceededForPool n opened) = true
+namesConnection (Failed n) = true
+namesConnection Maintenance = false
+namesConnection FillPool = false
+namesConnection (Pin n) = true
+namesConnection (ReturnToPinner n) = true
+namesConnection (TakeFromPinner n) = true
+namesConnection Close = false
+
+-- A closed pool takes these, if their own tests let them pass, and no others.
+pub closed-takes : (p : Pool) (e : Event) (now room : ℕ) → isClosed (p .state) ≡ true → 8192 ≤ room → p .clock ≤ now
+    → first (tests p (Good e now) room) ≡ (if namesConnection e then first (kindTests p e now) else some AfterClose)
+unfolding tests first if_then_else_
+closed-takes p e now room h r t = rw (le-ltb room 8192 r, le-ltb now (p .clock) t, h) (go e)
+  where
+    go : (e : Event)
+        → first ((AfterClose if not (takenAfterClose e)) ∷ (NumbersSpent if (kindNo e =? 5 && p .generation =? lastGeneration)) ∷ kindTests p e now)
+        ≡ (if namesConnection e then first (kindTests p e now) else some AfterClose)
+    go (CheckOut n) = refl
+    go (WarmPool n) = refl
+    go (Abandon n) = refl
+    go (CheckIn n errored executing letGo) = refl
+    go (Clear timeout cause) = refl
+    go MarkAsReady = refl
+    go (Succeeded n) = refl
+    go (SucceededForPool n opened) = refl
+    go (Failed n) = refl
+    go Maintenance = refl
+    go FillPool = refl
+    go (Pin n) = refl
+    go (ReturnToPinner n) = refl
+    go (TakeFromPinner n) = refl
+    go Close = refl
+
+-- An open pool takes an event, if its own tests let it pass, up to next id 4,294,967,168; from the next on only the close. A clear is not
+-- taken at generation 4,294,967,295 either.
+pub open-takes : (p : Pool) (e : Event) (now room : ℕ) → isClosed (p .state) ≡ false → 8192 ≤ room → p .clock ≤ now
+    → first (tests p (Good e now) room)
+    ≡ (if not (kindNo e =? 15) && 4294967168 <? p .nextId || kindNo e =? 5 && p .generation =? 4294967295 then some NumbersSpent
+    else first (kindTests p e now))
+unfolding tests first if_then_else_
+open-takes p e now room h r t = rw (le-ltb room 8192 r, le-ltb now (p .clock) t, h)
 
 -- ── The order of refusals ──────────────────────────────────────────────────────────────────────────────────────────────
 

@@ -2,7 +2,6 @@ pub mod Runs
 pub mod Calls
 pub mod Flow
 pub mod Keeps
-pub mod Progress
 pub mod Sums
 pub mod Conserve
 pub mod Numbered
@@ -11,5 +10,6 @@ pub mod States
 pub mod Reached
 pub mod RecordCounts
 pub mod Promises
+pub mod Progress
 pub mod Proved
 pub mod GivesBack

@@ -1,7 +1,8 @@
 -- Each call that puts a connection on the available list of a ready pool answers the front of the queue.
-use mathlib.Core.Path.{_≡_, refl, ap}
+use mathlib.Core.Path.{_≡_, refl, ap, sym}
 use mathlib.Core.Bool.{Bool, true, false, false≢true, not, _&&_, _||_}
-use mathlib.Core.List.{List, [], _∷_, _++_, List·Memᴰ, List·Memᴰ·head, List·Memᴰ·tail, head-eq-of-cons-eq, tail-eq-of-cons-eq}
+use mathlib.Core.List.{List, [], _∷_, _++_, List·Memᴰ, List·Memᴰ·head, List·Memᴰ·tail, Memᴰ·append-left, Memᴰ·append-right, head-eq-of-cons-eq, tail-eq-of-cons-eq, append-assoc}
+use mathlib.Core.Logic.{_⊎_, inl, inr}
 use Prim.Native.Nat.{ℕ, suc, _+_, _≤_, _<_, min}
 use lib.ListN.{length, length-append, length-map}
 use native.Mathlib.Omega.{arith}
@@ -16,6 +17,7 @@ use Rattle.definition.specs.declared.Event.the-variants.{CheckOut, WarmPool, Ab
 use Rattle.definition.specs.declared.Frame.{Frame}
 use Rattle.definition.specs.declared.Frame.the-variants.{Good, Bad}
 use Rattle.definition.specs.Log.{answered, ids}
+use Rattle.promises.specs.Promises.{Waits, InTimeFrom, InTimeBeforeFrom}
 use Rattle.promises.specs.Runs.{arrivals, taken, accepted, result, next, frontAbandoned, givesBack, puts, oneIf, countOf, times}
 use Rattle.definition.specs.Sentences.{answered-append, checkOut-says}
 use Rattle.promises.specs.Calls.{Stepped, no-step, a-step, stepped, passed-open}
@@ -154,15 +156,61 @@ in-front xs zs [] ws n e h = absurd (omega arith)
 in-front [] zs (y ∷ ys) ws n e h = List·Memᴰ·head (head-eq-of-cons-eq e)
 in-front (x ∷ xs) zs (y ∷ ys) ws n e h = List·Memᴰ·tail (in-front xs zs ys ws n (tail-eq-of-cons-eq e) (omega arith))
 
--- the call's request is the first to be accepted, after those that wait: by then as many are answered as wait before it
-pub progress : (p : Pool) (k : Call) (later : List Call) (n : ℕ) → Calm p → taken (k .frame) (result p k) ≡ n ∷ []
-    → suc (length (p .waiting)) ≤ times puts (next p k) later → List·Memᴰ n (answered (run (k ∷ later) p .records))
-unfolding run accepted _>>_
-progress p k later n c t h =
-    let s = stepped p (k .frame) (k .room) in
-    let f = flow-lengths p (after p (result p k)) (step-flow p (k .frame) (k .room) _ c s) in
-    let a = run-answers later (next p k) (step-calms p (k .frame) (k .room) _ s c) in
-    let one : length (taken (k .frame) (result p k)) ≡ 1 = ap length t in
-    in-front (ids (p .waiting)) (accepted (next p k) later) _ (ids (run (k ∷ later) p .pool .waiting)) n
-    (rw t at (run-flow (k ∷ later) p c .same))
-    (simp (answered-append, length-append, length-map) (omega (arith, times-le later (next p k))))
+-- whoever waits with so many ahead is answered with them, be the pool fresh or not
+pub waiter-answered : (p : Pool) (ahead behind : List ℕ) (n : ℕ) → Calm p → ids (p .waiting) ≡ ahead ++ n ∷ behind
+    → (later : List Call) → suc (length ahead) ≤ times puts p later → List·Memᴰ n (answered (run later p .records))
+waiter-answered p ahead behind n c e later h =
+    let f = run-flow later p c .same in
+    let a = run-answers later p c in
+    let l : length (p .waiting) ≡ length ahead + suc (length behind) = simp (length-append, length-map) at (ap length e) in
+    in-front ahead (behind ++ accepted p later) _ (ids (run later p .pool .waiting)) n (rw (e, append-assoc) at f) (omega (arith, times-le later p))
+
+-- the last of a list that is cut in two stands in the first part, or last in the second
+record Cut (ws xs ys : List ℕ) (n : ℕ) : Type 0 where
+  ahead : List ℕ
+  last-behind : ys ≡ ahead ++ n ∷ []
+  rest-before : ws ≡ xs ++ ahead
+
+cut-last : (ws xs ys : List ℕ) (n : ℕ) → ws ++ n ∷ [] ≡ xs ++ ys → List·Memᴰ n xs ⊎ Cut ws xs ys n
+cut-last ws [] ys n e = inr (record { ahead = ws; last-behind = sym e; rest-before = refl })
+cut-last [] (a ∷ xs) ys n e = inl (List·Memᴰ·head (head-eq-of-cons-eq e))
+cut-last (w ∷ ws) (a ∷ xs) ys n e = go (cut-last ws xs ys n (tail-eq-of-cons-eq e))
+  where
+    go : List·Memᴰ n xs ⊎ Cut ws xs ys n → List·Memᴰ n (a ∷ xs) ⊎ Cut (w ∷ ws) (a ∷ xs) ys n
+    go (inl m) = inl (List·Memᴰ·tail m)
+    go (inr c) =
+        let front = head-eq-of-cons-eq e in
+        inr (record { ahead = c .ahead; last-behind = c .last-behind; rest-before = rw (front, c .rest-before) })
+
+pub in-time-from : (p : Pool) → Calm p → InTimeFrom p
+in-time-from p c k n t = go (cut-last (ids (p .waiting)) _ _ n (rw t at (step-flow p (k .frame) (k .room) _ c s .same)))
+  where
+    s : Stepped p (k .frame) (k .room) (result p k)
+    s = stepped p (k .frame) (k .room)
+
+    o : Out Pool
+    o = after p (result p k)
+
+    go : List·Memᴰ n (answered (o .records)) ⊎ Cut (ids (p .waiting)) (answered (o .records)) (ids (o .pool .waiting)) n
+        → List·Memᴰ n (answered (o .records)) ⊎ Waits n p o
+    go (inl m) = inl m
+    go (inr x) =
+        inr (record {
+          ahead = x .ahead;
+          behind-them = x .last-behind;
+          who-waited = x .rest-before;
+          then-answered = waiter-answered (o .pool) (x .ahead) [] n (step-calms p (k .frame) (k .room) _ s c) (x .last-behind);
+        })
+
+pub in-time-before-from : (p : Pool) → Calm p → InTimeBeforeFrom p
+unfolding run _>>_
+in-time-before-from p c k later n t h = rw answered-append (go (in-time-from p c k n t))
+  where
+    o : Out Pool
+    o = after p (result p k)
+
+    go : List·Memᴰ n (answered (o .records)) ⊎ Waits n p o → List·Memᴰ n (answered (o .records) ++ answered (run later (o .pool) .records))
+    go (inl m) = Memᴰ·append-left _ m
+    go (inr w) =
+        let l : length (p .waiting) ≡ length (answered (o .records)) + length (w .ahead) = simp (length-append, length-map) at (ap length (w .who-waited)) in
+        Memᴰ·append-right (answered (o .records)) (w .then-answered later (omega arith))

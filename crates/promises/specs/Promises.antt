@@ -3,11 +3,12 @@
 use mathlib.Core.Path.{_≡_}
 use mathlib.Core.Option.{none}
 use mathlib.Core.List.{List, [], _∷_, _++_, List·Memᴰ}
+use mathlib.Core.Logic.{_⊎_}
 use Prim.Native.Nat.{ℕ, suc, _+_, _*_, _≤_}
 use lib.ListN.{length}
 use Rattle.definition.specs.Pool.{Pool, fresh, slotCount, withDefaults, withClock}
 use Rattle.definition.specs.Records.{Record, Replied, Pooled, recordLength}
-use Rattle.definition.specs.Steps.{handle, service}
+use Rattle.definition.specs.Steps.{Out, handle, service}
 use Rattle.definition.specs.Refusals.{first, tests, Call, after, run, enoughRoom, roomRecords, Made, make}
 use Rattle.definition.specs.declared.Options.{Options}
 use Rattle.definition.specs.declared.Event.{Event}
@@ -73,14 +74,33 @@ pub record Requests (o : Options) (calls : List Call) : Type 0 where
   -- and nobody is answered twice
   pub answered-once : (i : ℕ) → often i (answered (logOf o calls)) ≤ 1
 
--- (c) A request that is accepted with k waiting ahead of it has its answer by the end of the (k+1)th later call that puts a connection
--- on the available list of a Ready pool.
+-- (c) In time. A call that accepts request n answers it, or leaves it at the queue's end: behind those who waited before the call, save
+-- whom the call answered. With k of them ahead, n has its answer by the end of the (k+1)th later call that puts a connection on the
+-- available list of a Ready pool.
+pub record Waits (n : ℕ) (p : Pool) (o : Out Pool) : Type 0 where
+  pub ahead : List ℕ
+  pub behind-them : ids (o .pool .waiting) ≡ ahead ++ n ∷ []
+  pub who-waited : ids (p .waiting) ≡ answered (o .records) ++ ahead
+  pub then-answered : (later : List Call) → suc (length ahead) ≤ times puts (o .pool) later → List·Memᴰ n (answered (run later (o .pool) .records))
+
+abbrev pub InTimeFrom : Pool → Type 0
+InTimeFrom p =
+    (call : Call) (n : ℕ) → taken (call .frame) (result p call) ≡ n ∷ []
+    → let o = after p (result p call) in
+    List·Memᴰ n (answered (o .records)) ⊎ Waits n p o
+
 abbrev pub InTime : Options → Type 0
-InTime o =
-    (before : List Call) (call : Call) (later : List Call) (n : ℕ)
-    → taken (call .frame) (result (poolAfter o before) call) ≡ n ∷ []
-    → suc (length (poolAfter o before .waiting)) ≤ times puts (next (poolAfter o before) call) later
-    → List·Memᴰ n (answered (run (call ∷ later) (poolAfter o before) .records))
+InTime o = (before : List Call) → InTimeFrom (poolAfter o before)
+
+-- So it is with all counted who waited before the call, too: that is never fewer.
+abbrev pub InTimeBeforeFrom : Pool → Type 0
+InTimeBeforeFrom p =
+    (call : Call) (later : List Call) (n : ℕ) → taken (call .frame) (result p call) ≡ n ∷ []
+    → suc (length (p .waiting)) ≤ times puts (next p call) later
+    → List·Memᴰ n (answered (run (call ∷ later) p .records))
+
+abbrev pub InTimeBefore : Options → Type 0
+InTimeBefore o = (before : List Call) → InTimeBeforeFrom (poolAfter o before)
 
 -- (d) A service stage closes no more connections than it found available, in any pool at all.
 abbrev pub FewClosed : Type 0

@@ -13,12 +13,12 @@ use Rattle.definition.specs.Refusals.{run, Call, Made, NotMade, make}
 use Rattle.definition.specs.declared.Options.{Options}
 use Rattle.definition.specs.declared.Refusal.the-variants.{OptionsOutOfRange}
 use Rattle.definition.specs.Log.{created, closed, answered, ids, often, sumOf, Rising}
-use Rattle.promises.specs.Promises.{Fresh, MadeFresh, Connections, HandsOutFree, Requests, InTime, FewClosed, FewRecords, Serials, poolAfter, logOf, standing}
+use Rattle.promises.specs.Promises.{Fresh, MadeFresh, Connections, HandsOutFree, Requests, InTime, InTimeBefore, FewClosed, FewRecords, Serials, poolAfter, logOf, standing}
 use Rattle.definition.specs.Sentences.{pooled-was-available}
 use Rattle.promises.specs.Calls.{stepped}
 use Rattle.promises.specs.Flow.{run-flow, run-calms, fresh-calm}
 use Rattle.promises.specs.Keeps.{run-rising, run-options, run-written}
-use Rattle.promises.specs.Progress.{progress}
+use Rattle.promises.specs.Progress.{in-time-from, in-time-before-from}
 use Rattle.promises.specs.Conserve.{held, Moves, conserved, run-moves, until-service-moves}
 use Rattle.promises.specs.Numbered.{Numbers, created-once, run-numbers, until-service-numbers}
 use Rattle.promises.specs.Reached.{run-reached, fresh-reached}
@@ -114,7 +114,10 @@ requests o calls =
 -- ── In time, few, counted ──────────────────────────────────────────────────────────────────────────────────────────────
 
 pub in-time : (o : Options) → InTime o
-in-time o before call later n = progress (poolAfter o before) call later n (run-calms before (fresh o) (fresh-calm o))
+in-time o before = in-time-from (poolAfter o before) (run-calms before (fresh o) (fresh-calm o))
+
+pub in-time-before : (o : Options) → InTimeBefore o
+in-time-before o before = in-time-before-from (poolAfter o before) (run-calms before (fresh o) (fresh-calm o))
 
 pub few-closed : FewClosed
 few-closed = service-closes

@@ -123,7 +123,7 @@ room-of : (l : List Conn) (a m : ℕ) (b : Bool) → (some? l || a <? m && b) �
 room-of [] a m b h e = omega (arith, ltb-true a m (and-left (a <? m) b h))
 room-of (c ∷ l) a m b h e = omega arith
 
-room : (p : Pool) → canService p ≡ true → total p ≤ p .options .maximum → total p < p .options .maximum + length (p .available)
+pub room : (p : Pool) → canService p ≡ true → total p ≤ p .options .maximum → total p < p .options .maximum + length (p .available)
 unfolding canService
 room p h f = room-of (p .available) _ _ _ (and-right (isReady (p .state)) _ h) f
 

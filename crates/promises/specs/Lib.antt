@@ -8,6 +8,7 @@ pub mod Numbered
 pub mod Bound
 pub mod States
 pub mod Reached
+pub mod Tested
 pub mod RecordCounts
 pub mod Promises
 pub mod Progress

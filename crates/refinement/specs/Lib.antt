@@ -20,3 +20,4 @@ pub mod Formed
 pub mod Needs
 pub mod RecordRoom
 pub mod Rules
+pub mod Places

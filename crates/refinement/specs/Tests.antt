@@ -14,12 +14,12 @@ use Rattle.definition.specs.Pool as P
 use Rattle.definition.specs.Pool.{queueLength, slotCount, Pool, Conn, isClosed, has, hasIn, find, stateNo}
 use Rattle.definition.specs.Steps.{kindNo, _to_holds_}
 use Rattle.definition.specs.Refusals as R
-use Rattle.definition.specs.Refusals.{Test, _if_, first, wrongTime, takenAfterClose, lastNextId, lastGeneration}
+use Rattle.definition.specs.Refusals.{Test, _if_, first, wrongTime, causeless, takenAfterClose, lastNextId, lastGeneration}
 use Rattle.definition.specs.declared.Event.{Event}
 use Rattle.definition.specs.declared.Event.the-variants.{CheckOut, WarmPool, Abandon, CheckIn, Clear, MarkAsReady, Succeeded, SucceededForPool, Failed, Maintenance, FillPool, Pin, ReturnToPinner, TakeFromPinner, Close}
 use Rattle.definition.specs.declared.PoolState.{PoolState}
 use Rattle.definition.specs.declared.Refusal.{Refusal}
-use Rattle.definition.specs.declared.Refusal.the-variants.{ClockBack, AfterClose, NumbersSpent, OldRequest, QueueFull, WrongState, WrongTime, NotWaiting, AlreadyPinned}
+use Rattle.definition.specs.declared.Refusal.the-variants.{Malformed, ClockBack, AfterClose, NumbersSpent, OldRequest, QueueFull, WrongState, WrongTime, NotWaiting, AlreadyPinned}
 use Rattle.slots.specs.OrderLaws.{place-found}
 use Rattle.slots.specs.Finding.{holding-at, holding-none}
 use Rattle.slots.specs.View.{SlotPool, Slot, vacant}
@@ -107,7 +107,7 @@ pinned-lent k h = let w = within 3 4 k h in holds-in 2 4 k (omega arith) (omega 
 -- the definition's tests of an event, the room for records apart
 abbrev pub eventTests : Pool → Event → ℕ → List Test
 eventTests m e now =
-    (ClockBack if now <? m .clock) ∷ (AfterClose if isClosed (m .state) && not (takenAfterClose e)) ∷ (NumbersSpent if R.numbersSpent m e) ∷ R.kindTests m e now
+    (Malformed if causeless e) ∷ (ClockBack if now <? m .clock) ∷ (AfterClose if isClosed (m .state) && not (takenAfterClose e)) ∷ (NumbersSpent if R.numbersSpent m e) ∷ R.kindTests m e now
 
 module _ {p : SlotPool} {m : Pool} (st : Stands p m) where
   abbrev lents : Agrees isLent (p .ids) (p .slots) (m .lent)
@@ -167,15 +167,17 @@ module _ {p : SlotPool} {m : Pool} (st : Stands p m) where
   pub tests-same : (e : Event) (now : ℕ) → first (C.tests p e now) ≡ first (eventTests m e now)
   unfolding C.tests
   tests-same e now =
-      first-same ClockBack (now <? p .clock) (now <? m .clock) _ _ (ap (λ (x : ℕ). now <? x) (st .alike .clock))
+      first-same Malformed (causeless e) (causeless e) _ _ refl
+      (λ _. first-same ClockBack (now <? p .clock) (now <? m .clock) _ _ (ap (λ (x : ℕ). now <? x) (st .alike .clock))
       (λ _. first-same AfterClose (isClosed (p .state) && not (takenAfterClose e)) (isClosed (m .state) && not (takenAfterClose e)) _ _ (ap (λ (x : PoolState). isClosed x && not (takenAfterClose e)) (st .alike .state))
       (λ _. first-same NumbersSpent (C.numbersSpent p e) (R.numbersSpent m e) _ _ (spent-same e)
-      (λ _. kind-tests e now)))
+      (λ _. kind-tests e now))))
 
 -- ── Where no test holds ────────────────────────────────────────────────────────────────────────────────────────────────
 
 -- the event is not refused
 pub record Passed (p : SlotPool) (e : Event) (now : ℕ) : Type 0 where
+  pub caused : causeless e ≡ false
   pub clock : p .clock ≤ now
   pub taken : (isClosed (p .state) && not (takenAfterClose e)) ≡ false
   pub numbers : C.numbersSpent p e ≡ false
@@ -217,10 +219,11 @@ module _ {p : SlotPool} {m : Pool} (st : Stands p m) where
   pub tests-passed : (e : Event) (now : ℕ) → first (C.tests p e now) ≡ none → Passed p e now
   unfolding C.tests
   tests-passed e now h =
-      let a = not-first ClockBack (now <? p .clock) _ h in
+      let n = not-first Malformed (causeless e) _ h in
+      let a = not-first ClockBack (now <? p .clock) _ (n .1) in
       let b = not-first AfterClose (isClosed (p .state) && not (takenAfterClose e)) _ (a .1) in
       let c = not-first NumbersSpent (C.numbersSpent p e) _ (b .1) in
-      record { clock = ltb-false now (p .clock) (a .0); taken = b .0; numbers = c .0; fit = kind-fit e now (c .1) }
+      record { caused = n .0; clock = ltb-false now (p .clock) (a .0); taken = b .0; numbers = c .0; fit = kind-fit e now (c .1) }
 
   -- and so where the verdict names a slot or a waiter: it is the event's
   pub verdict-passed : (e : Event) (now i : ℕ) → C.verdict p e now ≡ Accept i → Passed p e now × (i ≡ target p e)

@@ -13,13 +13,13 @@ use Rattle.definition.specs.Words.{if_then_else_, _<?_, _≤?_, _=?_, _�
 use Rattle.definition.specs.Pool.{Pool, Conn, Waiter, isClosed, stale, perished, has, hasIn, inBackground, find, withState, withAvailable}
 use Rattle.definition.specs.Records.{Record, ConnectionCreated, ConnectionCheckedIn, ConnectionClosed, Replied, Reply, Pooled, Establishing, Warmed, Unheard, told}
 use Rattle.definition.specs.Steps.{Out, Act, _>>_, nothing, emit, leaveLent, leavePending, shelve, lendOut, createPendingConnection, closePerished, tellAll, enter, abandon, checkIn, clear, repin, shut, succeededForPool, removePerished, establish, lend, takeAvailable, checkOut, serveFront, service, serviced, handle, event, kindNo}
-use Rattle.definition.specs.Refusals.{refusalNo, Test, _if_, first, tests, kindTests, takenAfterClose, lastGeneration}
+use Rattle.definition.specs.Refusals.{refusalNo, Test, _if_, first, tests, kindTests, causeless, takenAfterClose, lastGeneration}
 use Rattle.definition.specs.declared.Event.{Event}
 use Rattle.definition.specs.declared.Event.the-variants.{CheckOut, WarmPool, Abandon, CheckIn, Clear, MarkAsReady, Succeeded, SucceededForPool, Failed, Maintenance, FillPool, Pin, ReturnToPinner, TakeFromPinner, Close}
 use Rattle.definition.specs.declared.Frame.{Frame}
 use Rattle.definition.specs.declared.Frame.the-variants.{Good, Bad}
 use Rattle.definition.specs.declared.Refusal.{Refusal}
-use Rattle.definition.specs.declared.Refusal.the-variants.{OutputShort, AfterClose, NumbersSpent, WrongTime}
+use Rattle.definition.specs.declared.Refusal.the-variants.{Malformed, OutputShort, AfterClose, NumbersSpent, WrongTime}
 use Rattle.definition.specs.declared.PoolState.the-variants.{Paused, Closed}
 use Rattle.definition.specs.declared.ConnectionState.{ConnectionState}
 use Rattle.definition.specs.declared.ConnectionState.the-variants.{CheckedIn, CheckedOut}
@@ -411,13 +411,10 @@ unfolding tests first if_then_else_
 short-output p Bad room h = rw (lt-ltb room 8192 h)
 short-output p (Good e now) room h = rw (lt-ltb room 8192 h)
 
--- then a clear with no cause, and only a clear
+-- and then a clear that names no cause
 pub no-cause : (p : Pool) (timeout : Bool) (now room : ℕ) → 8192 ≤ room → first (tests p (Good (Clear timeout 0) now) room) ≡ some Malformed
 unfolding tests first if_then_else_
 no-cause p timeout now room r = rw (le-ltb room 8192 r)
-
-pub a-cause : (e : Event) → causeless e ≡ true → (timeout : Bool) × (e ≡ Clear timeout 0)
-a-cause e h = ?
 
 -- the events that name a connection
 abbrev pub namesConnection : Event → Bool

@@ -77,8 +77,11 @@ module _ (xs : List ℕ) (ss : List Slot) (i : ℕ) where
   view-once [] l u al d = omega (arith, often-none i)
   view-once (e ∷ o) l u al d =
       by-eq (getD xs e 0) i
-      (λ q. omega (arith, often-here i (getD xs e 0) (numbers (view xs ss o)) q,
-      view-away e o (d .0) (λ y k r. u y e (omega (arith, k .0, l)) (omega (arith, al .0 .0, l)) (k .1) (r ∙ sym q)) (al .1)))
+      (λ q. omega (
+        arith,
+        often-here i (getD xs e 0) (numbers (view xs ss o)) q,
+        view-away e o (d .0) (λ y k r. u y e (omega (arith, k .0, l)) (omega (arith, al .0 .0, l)) (k .1) (r ∙ sym q)) (al .1),
+      ))
       (λ n. omega (arith, often-there i (getD xs e 0) (numbers (view xs ss o)) n, view-once o l u (al .1) (d .1)))
 
 -- ── In one place ───────────────────────────────────────────────────────────────────────────────────────────────────────
@@ -110,13 +113,13 @@ module _ {xs : List ℕ} {ss : List Slot} {o : List ℕ} {next : ℕ} {av le pe 
   placed (some s) h =
       by-bool (isLent (s .state))
       (λ l.
-          let w = within 2 4 (s .state) l in
-          omega (arith, shelved s h (λ e. omega arith), class-once (k .lent) i, class-none (k .pending) i (λ z. ap (only isPending) h ∙ only-out isPending s (lent-alone (s .state) l))))
+      let w = within 2 4 (s .state) l in
+      omega (arith, shelved s h (λ e. omega arith), class-once (k .lent) i, class-none (k .pending) i (λ z. ap (only isPending) h ∙ only-out isPending s (lent-alone (s .state) l))))
       (λ l.
-          let none-lent = class-none (k .lent) i (λ z. ap (only isLent) h ∙ only-out isLent s l) in
-          by-bool (isPending (s .state))
-          (λ p. let w = within 5 6 (s .state) p in omega (arith, none-lent, shelved s h (λ e. omega arith), class-once (k .pending) i))
-          (λ p. omega (arith, none-lent, class-none (k .pending) i (λ z. ap (only isPending) h ∙ only-out isPending s p), view-once xs ss i o (k .longIds) (k .unique) (k .listed) (k .distinct))))
+      let none-lent = class-none (k .lent) i (λ z. ap (only isLent) h ∙ only-out isLent s l) in
+      by-bool (isPending (s .state))
+      (λ p. let w = within 5 6 (s .state) p in omega (arith, none-lent, shelved s h (λ e. omega arith), class-once (k .pending) i))
+      (λ p. omega (arith, none-lent, class-none (k .pending) i (λ z. ap (only isPending) h ∙ only-out isPending s p), view-once xs ss i o (k .longIds) (k .unique) (k .listed) (k .distinct))))
 
 pub one-place : {p : SlotPool} {m : Pool} → Stands p m → (i : ℕ) → standing i m ≤ 1
 one-place {p} {m} st i =

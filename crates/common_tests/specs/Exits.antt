@@ -6,41 +6,47 @@ use borrow.Author.Tests.{lt-ltb, le-ltb}
 use Rattle.definition.specs.Words.{if_then_else_}
 use Rattle.definition.specs.Pool.{isClosed}
 use Rattle.definition.specs.Steps.{kindNo}
-use Rattle.definition.specs.Refusals.{first, takenAfterClose}
+use Rattle.definition.specs.Refusals.{first, causeless, takenAfterClose}
 use Rattle.definition.specs.declared.Event.{Event}
-use Rattle.definition.specs.declared.Refusal.the-variants.{ClockBack, AfterClose, NumbersSpent}
+use Rattle.definition.specs.declared.Refusal.the-variants.{Malformed, ClockBack, AfterClose, NumbersSpent}
 use Rattle.slots.specs.declared.Status.{Status}
 use Rattle.common_tests.specs.Tests.{takenAfter, spent, commonVerdict}
 use Rattle.common_tests.specs.Laws.{clear-no}
 use Rattle.common_tests.specs.declared.Common.the-variants.{Refuse, Pass}
 
-module _ (clock nextId : ℕ) (m : Status) (now : ℕ) (e : Event) where
-  pub common-back : now < clock → Refuse ClockBack ≡ commonVerdict clock nextId m now e
+-- x is the answer whether the event is a clear without a cause
+module _ (clock nextId : ℕ) (m : Status) (now : ℕ) (e : Event) {x : Bool} (asked : x ≡ causeless e) where
+  pub common-causeless : x ≡ true → Refuse Malformed ≡ commonVerdict clock nextId m now e
   unfolding commonVerdict first if_then_else_
-  common-back h = rw (lt-ltb now clock h)
+  common-causeless bare = rw (← asked, bare)
 
-  -- k is the number of the event's kind, b the answer whether the pool is closed, t that of the next test
-  module _ (h : clock ≤ now) {k : ℕ} (kind : k ≡ kindNo e) {b : Bool} (closed : b ≡ isClosed (m .state)) {t : Bool} where
-    pub common-taken : b ≡ true → t ≡ takenAfter k → t ≡ true → Pass ≡ commonVerdict clock nextId m now e
+  module _ (caused : x ≡ false) where
+    pub common-back : now < clock → Refuse ClockBack ≡ commonVerdict clock nextId m now e
     unfolding commonVerdict first if_then_else_
-    common-taken shut answer holds =
-        let taken : takenAfterClose e ≡ true = rw (← kind) (sym answer ∙ holds) in
-        rw (le-ltb now clock h, ← closed, shut, taken, clear-no e taken)
+    common-back h = rw (← asked, caused, lt-ltb now clock h)
 
-    pub common-closed : b ≡ true → t ≡ takenAfter k → t ≡ false → Refuse AfterClose ≡ commonVerdict clock nextId m now e
-    unfolding commonVerdict first if_then_else_
-    common-closed shut answer fails =
-        let taken : takenAfterClose e ≡ false = rw (← kind) (sym answer ∙ fails) in
-        rw (le-ltb now clock h, ← closed, shut, taken)
+    -- k is the number of the event's kind, b the answer whether the pool is closed, t that of the next test
+    module _ (h : clock ≤ now) {k : ℕ} (kind : k ≡ kindNo e) {b : Bool} (closed : b ≡ isClosed (m .state)) {t : Bool} where
+      pub common-taken : b ≡ true → t ≡ takenAfter k → t ≡ true → Pass ≡ commonVerdict clock nextId m now e
+      unfolding commonVerdict first if_then_else_
+      common-taken shut answer holds =
+          let taken : takenAfterClose e ≡ true = rw (← kind) (sym answer ∙ holds) in
+          rw (← asked, caused, le-ltb now clock h, ← closed, shut, taken, clear-no e taken)
 
-    pub common-spent : b ≡ false → t ≡ spent k (m .generation) nextId → t ≡ true → Refuse NumbersSpent ≡ commonVerdict clock nextId m now e
-    unfolding commonVerdict first if_then_else_
-    common-spent unshut answer holds =
-        let out : spent (kindNo e) (m .generation) nextId ≡ true = rw (← kind) (sym answer ∙ holds) in
-        rw (le-ltb now clock h, ← closed, unshut, out)
+      pub common-closed : b ≡ true → t ≡ takenAfter k → t ≡ false → Refuse AfterClose ≡ commonVerdict clock nextId m now e
+      unfolding commonVerdict first if_then_else_
+      common-closed shut answer fails =
+          let taken : takenAfterClose e ≡ false = rw (← kind) (sym answer ∙ fails) in
+          rw (← asked, caused, le-ltb now clock h, ← closed, shut, taken)
 
-    pub common-open : b ≡ false → t ≡ spent k (m .generation) nextId → t ≡ false → Pass ≡ commonVerdict clock nextId m now e
-    unfolding commonVerdict first if_then_else_
-    common-open unshut answer fails =
-        let out : spent (kindNo e) (m .generation) nextId ≡ false = rw (← kind) (sym answer ∙ fails) in
-        rw (le-ltb now clock h, ← closed, unshut, out)
+      pub common-spent : b ≡ false → t ≡ spent k (m .generation) nextId → t ≡ true → Refuse NumbersSpent ≡ commonVerdict clock nextId m now e
+      unfolding commonVerdict first if_then_else_
+      common-spent unshut answer holds =
+          let out : spent (kindNo e) (m .generation) nextId ≡ true = rw (← kind) (sym answer ∙ holds) in
+          rw (← asked, caused, le-ltb now clock h, ← closed, unshut, out)
+
+      pub common-open : b ≡ false → t ≡ spent k (m .generation) nextId → t ≡ false → Pass ≡ commonVerdict clock nextId m now e
+      unfolding commonVerdict first if_then_else_
+      common-open unshut answer fails =
+          let out : spent (kindNo e) (m .generation) nextId ≡ false = rw (← kind) (sym answer ∙ fails) in
+          rw (← asked, caused, le-ltb now clock h, ← closed, unshut, out)

@@ -1,6 +1,6 @@
--- What the exits rest on: the kinds that a closed pool takes; and what the shared tests said, by their verdict.
+-- What the exits rest on: the number of a clear; the kinds that a closed pool takes; and what the shared tests said, by their verdict.
 use mathlib.Core.Path.{_≡_, refl, ap}
-use mathlib.Core.Bool.{true, false, false≢true}
+use mathlib.Core.Bool.{Bool, true, false, false≢true}
 use mathlib.Core.Option.{Option, none, some}
 use Prim.Native.Nat.{ℕ}
 use native.Mathlib.Omega.{arith}
@@ -13,23 +13,27 @@ use Rattle.definition.specs.declared.Refusal.{Refusal}
 use Rattle.common_tests.specs.Tests.{commonOf}
 use Rattle.common_tests.specs.declared.Common.the-variants.{Refuse, Pass}
 
+-- 5 is the number of a clear alone
+pub not-clear : (e : Event) → ((t : Bool) (c : ℕ) → e ≡ Clear t c → ⊥) → (kindNo e =? 5) ≡ false
+not-clear (CheckOut n) h = refl
+not-clear (WarmPool n) h = refl
+not-clear (Abandon n) h = refl
+not-clear (CheckIn n er ex t) h = refl
+not-clear (Clear t c) h = absurd (h t c refl)
+not-clear MarkAsReady h = refl
+not-clear (Succeeded n) h = refl
+not-clear (SucceededForPool n t) h = refl
+not-clear (Failed n) h = refl
+not-clear Maintenance h = refl
+not-clear FillPool h = refl
+not-clear (Pin n) h = refl
+not-clear (ReturnToPinner n) h = refl
+not-clear (TakeFromPinner n) h = refl
+not-clear Close h = refl
+
 -- a clear is not among the kinds that a closed pool takes
 pub clear-no : (e : Event) → takenAfterClose e ≡ true → (kindNo e =? 5) ≡ false
-clear-no (CheckOut n) h = refl
-clear-no (WarmPool n) h = refl
-clear-no (Abandon n) h = refl
-clear-no (CheckIn n er ex t) h = refl
-clear-no (Clear t c) h = absurd (false≢true h)
-clear-no MarkAsReady h = refl
-clear-no (Succeeded n) h = refl
-clear-no (SucceededForPool n t) h = refl
-clear-no (Failed n) h = refl
-clear-no Maintenance h = refl
-clear-no FillPool h = refl
-clear-no (Pin n) h = refl
-clear-no (ReturnToPinner n) h = refl
-clear-no (TakeFromPinner n) h = refl
-clear-no Close h = refl
+clear-no e h = not-clear e (λ t c q. false≢true (rw q at h))
 
 -- what the shared tests said, by their verdict
 pub common-refused : (o : Option Refusal) (r : Refusal) → commonOf o ≡ Refuse r → o ≡ some r

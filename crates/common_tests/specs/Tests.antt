@@ -6,10 +6,10 @@ use Prim.Native.Nat.{ℕ}
 use Rattle.definition.specs.Words.{_<?_, _=?_}
 use Rattle.definition.specs.Pool.{isClosed}
 use Rattle.definition.specs.Steps.{kindNo, _to_holds_}
-use Rattle.definition.specs.Refusals.{Test, _if_, first, takenAfterClose, lastNextId, lastGeneration}
+use Rattle.definition.specs.Refusals.{Test, _if_, first, causeless, takenAfterClose, lastNextId, lastGeneration}
 use Rattle.definition.specs.declared.Event.{Event}
 use Rattle.definition.specs.declared.Refusal.{Refusal}
-use Rattle.definition.specs.declared.Refusal.the-variants.{ClockBack, AfterClose, NumbersSpent}
+use Rattle.definition.specs.declared.Refusal.the-variants.{Malformed, ClockBack, AfterClose, NumbersSpent}
 use Rattle.slots.specs.declared.Status.{Status}
 use Rattle.common_tests.specs.declared.Common.{Common}
 use Rattle.common_tests.specs.declared.Common.the-variants.{Refuse, Pass}
@@ -20,9 +20,10 @@ takenAfter kind = kind =? 4 || 7 to 9 holds kind || 12 to 14 holds kind
 abbrev pub spent : (kind generation nextId : ℕ) → Bool
 spent kind generation nextId = not (kind =? 15) && lastNextId <? nextId || kind =? 5 && generation =? lastGeneration
 
--- 3, 4 and 5
+-- 2, of a clear; 3, 4 and 5
 abbrev pub commonTests : (clock nextId : ℕ) → Status → (now : ℕ) → Event → List Test
 commonTests clock nextId m now e =
+    (Malformed if causeless e) ∷
     (ClockBack if now <? clock) ∷
     (AfterClose if isClosed (m .state) && not (takenAfterClose e)) ∷
     (NumbersSpent if not (isClosed (m .state)) && not (kindNo e =? 15) && lastNextId <? nextId || kindNo e =? 5 && m .generation =? lastGeneration) ∷ []

@@ -1,6 +1,7 @@
-// The tests that every event must pass, whatever its kind: its time, the closed pool, the numbers spent.
+// The tests that every event must pass, whatever its kind: a clear's cause, the event's time, the closed pool, the numbers spent.
 ghost use mathlib.Core.Path.{_≡_};
 ghost use Rattle.definition.specs.Steps.{kindNo};
+ghost use Rattle.definition.specs.Refusals.{causeless};
 ghost use Rattle.common_tests.specs.Tests.{takenAfter, spent, commonVerdict};
 use definition::Event;
 use definition::LAST_NEXT_ID;
@@ -38,6 +39,16 @@ pub fn kind_no(e: Event) -> u8
     }
 }
 
+// A clear that names no cause.
+fn causeless(e: Event) -> bool
+    ensures { λ r. ⌜ r ≡ causeless e ⌝ }
+{
+    if let Event::Clear(_, cause) = e {
+        return cause == 0;
+    }
+    false
+}
+
 // A closed pool still takes kinds 4, 7 to 9 and 12 to 14.
 fn taken_after_close(kind: u8) -> bool
     ensures { λ r. ⌜ r ≡ takenAfter kind ⌝ }
@@ -73,10 +84,13 @@ fn numbers_spent(kind: u8, generation: u32, next_id: u32) -> bool
     false
 }
 
-// 3, 4 and 5.
+// 2, of a clear; 3, 4 and 5.
 pub fn common_verdict(clock: u64, next_id: u32, m: Status, time: u64, e: Event) -> Common
     ensures { λ r. ⌜ r ≡ commonVerdict clock «next_id» m time e ⌝ }
 {
+    if causeless(e) {
+        return Common::Refuse(Refusal::Malformed);
+    }
     if time < clock {
         return Common::Refuse(Refusal::ClockBack);
     }

@@ -48,10 +48,9 @@ checkInFrame flags id now second =
     if flags =? 2 then Good (CheckIn id false true second) now else
     need (flags =? 3) (Good (CheckIn id true true second) now)
 
--- flag 1 network timeout; the cause is not 0
+-- flag 1 network timeout
 abbrev pub clearFrame : (flags id now second : ℕ) → Frame
 clearFrame flags id now second =
-    if id =? 0 then Bad else
     if flags =? 0 then plain 0 second (Good (Clear false id) now) else
     need (flags =? 1) (plain 0 second (Good (Clear true id) now))
 

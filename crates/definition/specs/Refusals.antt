@@ -6,6 +6,7 @@ use Prim.Native.Nat.{ℕ, zero, suc, _+_, _-_, _*_, _/_}
 use lib.ListN.{length}
 use Rattle.definition.specs.Words.{if_then_else_, _<?_, _≤?_, _=?_, any?}
 use Rattle.definition.specs.Pool.{Pool, fresh, slotCount, queueLength, withDefaults, inRange, withClock, withWritten, isClosed, has, hasIn, find, unpinned, pinned, pinnedInUse, forRequest, inBackground}
+use Rattle.definition.specs.Events.{partsOf}
 use Rattle.definition.specs.Records.{recordLength}
 use Rattle.definition.specs.Steps.{Out, Act, nothing, _>>_, event, kindNo, _to_holds_}
 use Rattle.definition.specs.Types.{Options, Event, CheckOut, WarmPool, Abandon, CheckIn, Clear, MarkAsReady, Succeeded, SucceededForPool, Failed, Maintenance, FillPool, Pin, ReturnToPinner, TakeFromPinner, Close, Frame, Good, Bad, Refusal, OutputShort, Malformed, ClockBack, AfterClose, NumbersSpent, OldRequest, QueueFull, WrongState, WrongTime, OptionsOutOfRange, NotWaiting, AlreadyPinned}
@@ -93,6 +94,10 @@ kindTests p (ReturnToPinner n) now = (WrongState if not (hasIn pinnedInUse n (p 
 kindTests p (TakeFromPinner n) now = (WrongState if not (hasIn pinned n (p .lent))) ∷ []
 kindTests p Close now = []
 
+-- 2: a clear that names no cause
+abbrev pub causeless : Event → Bool
+causeless e = kindNo e =? 5 && partsOf e .id =? 0
+
 -- 4: a closed pool still takes kinds 4, 7 to 9 and 12 to 14
 abbrev pub takenAfterClose : Event → Bool
 takenAfterClose e = kindNo e =? 4 || 7 to 9 holds kindNo e || 12 to 14 holds kindNo e
@@ -107,6 +112,7 @@ unfoldable pub tests : Pool → Frame → (room : ℕ) → List Test
 tests p Bad room = (OutputShort if room <? enoughRoom) ∷ (Malformed if true) ∷ []
 tests p (Good e now) room =
     (OutputShort if room <? enoughRoom) ∷
+    (Malformed if causeless e) ∷
     (ClockBack if now <? p .clock) ∷
     (AfterClose if isClosed (p .state) && not (takenAfterClose e)) ∷
     (NumbersSpent if numbersSpent p e) ∷

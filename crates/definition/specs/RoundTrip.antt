@@ -3,54 +3,51 @@ use mathlib.Core.Path.{_≡_, refl, ap, sym, _∙_}
 use mathlib.Core.Bool.{Bool, true, false}
 use mathlib.Core.List.{List, [], _∷_, _++_}
 use mathlib.Core.Option.{Option, none, some}
-use Prim.Native.Nat.{ℕ, zero, suc, _+_, _*_, _/_, _%_, _<_, _≤_}
+use Prim.Native.Nat.{ℕ, _+_, _*_, _/_, _%_, _<_, _≤_}
 use native.Mathlib.Omega.{arith}
 use lib.ListN.{length, getD, take, drop, length-append, length-take, drop-of-length-le, take-append-drop}
 use lib.Seq.{take-at, getD-at, drop-cons}
-use borrow.Author.Tests.{eqb-true, eqb-false, ne-eqb}
+use borrow.Author.Tests.{eqb-true}
 use Rattle.definition.specs.Words.{if_then_else_, _=?_}
 use Rattle.definition.specs.Events.{partsOf}
-use Rattle.definition.specs.Steps.{kindNo}
 use Rattle.definition.specs.Bytes.{be4, be8, at4, at8, need, plain, bare, checkInFrame, clearFrame, frameOfFields, frameOf, frameBytes, optionsOf, optionsBytes, newline, hexOf, unhex, lineOf, bytesOf, orBad, orNone, frameOfLine, optionsOfLine}
 use Rattle.definition.specs.HexLaws.{Bytes, none8, more8, unhex-hexOf, unhex-read, Read, length-hexOf, getD-small, drop-spread, be4-bytes, at4-be4, at8-be8, small4, small8, four, eight}
 use Rattle.definition.specs.Types.{Event, CheckOut, WarmPool, Abandon, CheckIn, Clear, MarkAsReady, Succeeded, SucceededForPool, Failed, Maintenance, FillPool, Pin, ReturnToPinner, TakeFromPinner, Close, Frame, Good, Bad, Options}
 
--- what a frame can hold: the cause of a clear, kind 5, is not 0
+-- what a frame can hold
 pub record Writable (e : Event) (now : ℕ) : Type 0 where
   pub id : partsOf e .id < 4294967296
   pub time : now < 18446744073709551616
   pub second : partsOf e .second < 18446744073709551616
-  pub cause : kindNo e ≡ 5 → 0 < partsOf e .id
 
 -- ── Written, then read ─────────────────────────────────────────────────────────────────────────────────────────────────
 
-fields-good : (e : Event) (now : ℕ) → (kindNo e ≡ 5 → 0 < partsOf e .id)
-    → frameOfFields (partsOf e .kind) (partsOf e .flags) (partsOf e .id) now (partsOf e .second) ≡ Good e now
+fields-good : (e : Event) (now : ℕ) → frameOfFields (partsOf e .kind) (partsOf e .flags) (partsOf e .id) now (partsOf e .second) ≡ Good e now
 unfolding frameOfFields if_then_else_
-fields-good (CheckOut n) now h = refl
-fields-good (WarmPool n) now h = refl
-fields-good (Abandon n) now h = refl
-fields-good (CheckIn n false false t) now h = refl
-fields-good (CheckIn n false true t) now h = refl
-fields-good (CheckIn n true false t) now h = refl
-fields-good (CheckIn n true true t) now h = refl
-fields-good (Clear false n) now h = let c : 0 < n = h refl in rw (ne-eqb n 0 (λ z. omega arith))
-fields-good (Clear true n) now h = let c : 0 < n = h refl in rw (ne-eqb n 0 (λ z. omega arith))
-fields-good MarkAsReady now h = refl
-fields-good (Succeeded n) now h = refl
-fields-good (SucceededForPool n t) now h = refl
-fields-good (Failed n) now h = refl
-fields-good Maintenance now h = refl
-fields-good FillPool now h = refl
-fields-good (Pin n) now h = refl
-fields-good (ReturnToPinner n) now h = refl
-fields-good (TakeFromPinner n) now h = refl
-fields-good Close now h = refl
+fields-good (CheckOut n) now = refl
+fields-good (WarmPool n) now = refl
+fields-good (Abandon n) now = refl
+fields-good (CheckIn n false false t) now = refl
+fields-good (CheckIn n false true t) now = refl
+fields-good (CheckIn n true false t) now = refl
+fields-good (CheckIn n true true t) now = refl
+fields-good (Clear false n) now = refl
+fields-good (Clear true n) now = refl
+fields-good MarkAsReady now = refl
+fields-good (Succeeded n) now = refl
+fields-good (SucceededForPool n t) now = refl
+fields-good (Failed n) now = refl
+fields-good Maintenance now = refl
+fields-good FillPool now = refl
+fields-good (Pin n) now = refl
+fields-good (ReturnToPinner n) now = refl
+fields-good (TakeFromPinner n) now = refl
+fields-good Close now = refl
 
 pub frame-good : (e : Event) (now : ℕ) → Writable e now → frameOf (frameBytes e now) ≡ Good e now
 unfolding frameOf frameBytes at4 at8 if_then_else_
 frame-good e now w =
-    rw (at4-be4 (partsOf e .id) (w .id), at8-be8 now (w .time), at8-be8 (partsOf e .second) (w .second)) (fields-good e now (w .cause))
+    rw (at4-be4 (partsOf e .id) (w .id), at8-be8 now (w .time), at8-be8 (partsOf e .second) (w .second)) (fields-good e now)
 
 -- kind and flags are bytes
 head-small : (e : Event) → (partsOf e .kind < 256) × (partsOf e .flags < 256)
@@ -143,7 +140,6 @@ pub record Carries (k f i n t : ℕ) (e : Event) (now : ℕ) : Type 0 where
   pub id : i ≡ partsOf e .id
   pub time : n ≡ now
   pub second : t ≡ partsOf e .second
-  pub cause : kindNo e ≡ 5 → 0 < partsOf e .id
 
 if-good : {b : Bool} {p q : Frame} {e : Event} {now : ℕ} {R : Type 0} → (if b then p else q) ≡ Good e now → (b ≡ true → p ≡ Good e now → R) → (b ≡ false → q ≡ Good e now → R) → R
 unfolding if_then_else_
@@ -166,53 +162,47 @@ bare-good f i t p q k = need-good q (λ a q₁. plain-good f t p q₁ (λ x y z.
 check-in-good : (f i n t : ℕ) (e : Event) (now : ℕ) → checkInFrame f i n t ≡ Good e now → Carries 4 f i n t e now
 unfolding if_then_else_
 check-in-good f i n t e now q =
-    if-good q (λ a r. made r (record { kind = refl; flags = eqb-true f 0 a; id = refl; time = refl; second = refl; cause = λ z. absurd (omega arith) })) (λ _ q₁.
-    if-good q₁ (λ a r. made r (record { kind = refl; flags = eqb-true f 1 a; id = refl; time = refl; second = refl; cause = λ z. absurd (omega arith) })) (λ _ q₂.
-    if-good q₂ (λ a r. made r (record { kind = refl; flags = eqb-true f 2 a; id = refl; time = refl; second = refl; cause = λ z. absurd (omega arith) })) (λ _ q₃.
-    need-good q₃ (λ a r. made r (record { kind = refl; flags = eqb-true f 3 a; id = refl; time = refl; second = refl; cause = λ z. absurd (omega arith) })))))
-
-positive : (n : ℕ) → (n ≡ 0 → ⊥) → 0 < n
-positive zero h = absurd (h refl)
-positive (suc n) h = omega arith
+    if-good q (λ a r. made r (record { kind = refl; flags = eqb-true f 0 a; id = refl; time = refl; second = refl })) (λ _ q₁.
+    if-good q₁ (λ a r. made r (record { kind = refl; flags = eqb-true f 1 a; id = refl; time = refl; second = refl })) (λ _ q₂.
+    if-good q₂ (λ a r. made r (record { kind = refl; flags = eqb-true f 2 a; id = refl; time = refl; second = refl })) (λ _ q₃.
+    need-good q₃ (λ a r. made r (record { kind = refl; flags = eqb-true f 3 a; id = refl; time = refl; second = refl })))))
 
 clear-good : (f i n t : ℕ) (e : Event) (now : ℕ) → clearFrame f i n t ≡ Good e now → Carries 5 f i n t e now
 unfolding if_then_else_
 clear-good f i n t e now q =
-    if-good q (λ _. no-good) (λ z q₁.
-    let h : 0 < i = positive i (eqb-false i 0 z) in
-    if-good q₁ (λ a q₂. plain-good 0 t _ q₂ (λ _ y r. made r (record { kind = refl; flags = eqb-true f 0 a; id = refl; time = refl; second = y; cause = λ _. h }))) (λ _ q₂.
-    need-good q₂ (λ a q₃. plain-good 0 t _ q₃ (λ _ y r. made r (record { kind = refl; flags = eqb-true f 1 a; id = refl; time = refl; second = y; cause = λ _. h })))))
+    if-good q (λ a q₁. plain-good 0 t _ q₁ (λ _ y r. made r (record { kind = refl; flags = eqb-true f 0 a; id = refl; time = refl; second = y }))) (λ _ q₁.
+    need-good q₁ (λ a q₂. plain-good 0 t _ q₂ (λ _ y r. made r (record { kind = refl; flags = eqb-true f 1 a; id = refl; time = refl; second = y }))))
 
 -- a frame of the kind k that uses its id alone, and one that uses nothing
 module _ {k f i n t : ℕ} (m : ℕ) (a : k =? m ≡ true) (e : Event) (now : ℕ) where
-  with-id : (made-of : ℕ → Event) → (partsOf (made-of i) .kind ≡ m) → (partsOf (made-of i) .flags ≡ 0) → (partsOf (made-of i) .id ≡ i) → (partsOf (made-of i) .second ≡ 0) → (m ≡ 5 → ⊥)
+  with-id : (made-of : ℕ → Event) → (partsOf (made-of i) .kind ≡ m) → (partsOf (made-of i) .flags ≡ 0) → (partsOf (made-of i) .id ≡ i) → (partsOf (made-of i) .second ≡ 0)
       → plain f t (Good (made-of i) n) ≡ Good e now → Carries k f i n t e now
-  with-id made-of ek ef ei es ne q =
-      plain-good f t _ q (λ x y s. made s (record { kind = eqb-true k m a ∙ sym ek; flags = x ∙ sym ef; id = sym ei; time = refl; second = y ∙ sym es; cause = λ z. absurd (ne (sym ek ∙ z)) }))
+  with-id made-of ek ef ei es q =
+      plain-good f t _ q (λ x y s. made s (record { kind = eqb-true k m a ∙ sym ek; flags = x ∙ sym ef; id = sym ei; time = refl; second = y ∙ sym es }))
 
-  with-none : (e′ : Event) → (partsOf e′ .kind ≡ m) → (partsOf e′ .flags ≡ 0) → (partsOf e′ .id ≡ 0) → (partsOf e′ .second ≡ 0) → (m ≡ 5 → ⊥)
+  with-none : (e′ : Event) → (partsOf e′ .kind ≡ m) → (partsOf e′ .flags ≡ 0) → (partsOf e′ .id ≡ 0) → (partsOf e′ .second ≡ 0)
       → bare f i t (Good e′ n) ≡ Good e now → Carries k f i n t e now
-  with-none e′ ek ef ei es ne q =
-      bare-good f i t _ q (λ x y z s. made s (record { kind = eqb-true k m a ∙ sym ek; flags = x ∙ sym ef; id = y ∙ sym ei; time = refl; second = z ∙ sym es; cause = λ w. absurd (ne (sym ek ∙ w)) }))
+  with-none e′ ek ef ei es q =
+      bare-good f i t _ q (λ x y z s. made s (record { kind = eqb-true k m a ∙ sym ek; flags = x ∙ sym ef; id = y ∙ sym ei; time = refl; second = z ∙ sym es }))
 
 pub fields-read : (k f i n t : ℕ) (e : Event) (now : ℕ) → frameOfFields k f i n t ≡ Good e now → Carries k f i n t e now
 unfolding frameOfFields if_then_else_
 fields-read k f i n t e now q =
-    if-good q (λ a r. with-id 1 a e now CheckOut refl refl refl refl (λ z. omega arith) r) (λ _ q1.
-    if-good q1 (λ a r. with-id 2 a e now WarmPool refl refl refl refl (λ z. omega arith) r) (λ _ q2.
-    if-good q2 (λ a r. with-id 3 a e now Abandon refl refl refl refl (λ z. omega arith) r) (λ _ q3.
+    if-good q (λ a r. with-id 1 a e now CheckOut refl refl refl refl r) (λ _ q1.
+    if-good q1 (λ a r. with-id 2 a e now WarmPool refl refl refl refl r) (λ _ q2.
+    if-good q2 (λ a r. with-id 3 a e now Abandon refl refl refl refl r) (λ _ q3.
     if-good q3 (λ a r. rw (eqb-true k 4 a) (check-in-good f i n t e now r)) (λ _ q4.
     if-good q4 (λ a r. rw (eqb-true k 5 a) (clear-good f i n t e now r)) (λ _ q5.
-    if-good q5 (λ a r. with-none 6 a e now MarkAsReady refl refl refl refl (λ z. omega arith) r) (λ _ q6.
-    if-good q6 (λ a r. with-id 7 a e now Succeeded refl refl refl refl (λ z. omega arith) r) (λ _ q7.
-    if-good q7 (λ a r. plain-good f 0 _ r (λ x _ s. made s (record { kind = eqb-true k 8 a; flags = x; id = refl; time = refl; second = refl; cause = λ z. absurd (omega arith) }))) (λ _ q8.
-    if-good q8 (λ a r. with-id 9 a e now Failed refl refl refl refl (λ z. omega arith) r) (λ _ q9.
-    if-good q9 (λ a r. with-none 10 a e now Maintenance refl refl refl refl (λ z. omega arith) r) (λ _ q10.
-    if-good q10 (λ a r. with-none 11 a e now FillPool refl refl refl refl (λ z. omega arith) r) (λ _ q11.
-    if-good q11 (λ a r. with-id 12 a e now Pin refl refl refl refl (λ z. omega arith) r) (λ _ q12.
-    if-good q12 (λ a r. with-id 13 a e now ReturnToPinner refl refl refl refl (λ z. omega arith) r) (λ _ q13.
-    if-good q13 (λ a r. with-id 14 a e now TakeFromPinner refl refl refl refl (λ z. omega arith) r) (λ _ q14.
-    if-good q14 (λ a r. with-none 15 a e now Close refl refl refl refl (λ z. omega arith) r) (λ _ q15. no-good q15)))))))))))))))
+    if-good q5 (λ a r. with-none 6 a e now MarkAsReady refl refl refl refl r) (λ _ q6.
+    if-good q6 (λ a r. with-id 7 a e now Succeeded refl refl refl refl r) (λ _ q7.
+    if-good q7 (λ a r. plain-good f 0 _ r (λ x _ s. made s (record { kind = eqb-true k 8 a; flags = x; id = refl; time = refl; second = refl }))) (λ _ q8.
+    if-good q8 (λ a r. with-id 9 a e now Failed refl refl refl refl r) (λ _ q9.
+    if-good q9 (λ a r. with-none 10 a e now Maintenance refl refl refl refl r) (λ _ q10.
+    if-good q10 (λ a r. with-none 11 a e now FillPool refl refl refl refl r) (λ _ q11.
+    if-good q11 (λ a r. with-id 12 a e now Pin refl refl refl refl r) (λ _ q12.
+    if-good q12 (λ a r. with-id 13 a e now ReturnToPinner refl refl refl refl r) (λ _ q13.
+    if-good q13 (λ a r. with-id 14 a e now TakeFromPinner refl refl refl refl r) (λ _ q14.
+    if-good q14 (λ a r. with-none 15 a e now Close refl refl refl refl r) (λ _ q15. no-good q15)))))))))))))))
 
 same-frame : {k k′ f f′ a c : ℕ} {x x′ y y′ z z′ : List ℕ} → k ≡ k′ → f ≡ f′ → a ≡ 0 → c ≡ 0 → x ≡ x′ → y ≡ y′ → z ≡ z′
     → k ∷ f ∷ a ∷ c ∷ (x ++ (y ++ z)) ≡ k′ ∷ f′ ∷ 0 ∷ 0 ∷ (x′ ++ (y′ ++ z′))
@@ -230,7 +220,7 @@ carried b e now h n z₂ z₃ r =
     let g : (k : ℕ) → getD b k 0 < 256 = getD-small h in
     record {
       same = drop-spread 24 0 b n ∙ same-frame (r .kind) (r .flags) z₂ z₃ (four b g 4 ∙ ap be4 (r .id)) (eight b g 8 ∙ ap be8 (r .time)) (eight b g 16 ∙ ap be8 (r .second));
-      writable = record { id = rw (r .id) at (small4 b g 4); time = rw (r .time) at (small8 b g 8); second = rw (r .second) at (small8 b g 16); cause = r .cause };
+      writable = record { id = rw (r .id) at (small4 b g 4); time = rw (r .time) at (small8 b g 8); second = rw (r .second) at (small8 b g 16) };
     }
 
 pub frame-read : (b : List ℕ) (e : Event) (now : ℕ) → Bytes b → frameOf b ≡ Good e now → IsFrame b e now

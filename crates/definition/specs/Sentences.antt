@@ -13,13 +13,13 @@ use Rattle.definition.specs.Words.{if_then_else_, _<?_, _≤?_, _=?_, _�
 use Rattle.definition.specs.Pool.{Pool, Conn, Waiter, isClosed, stale, perished, has, hasIn, inBackground, find, withState, withAvailable}
 use Rattle.definition.specs.Records.{Record, ConnectionCreated, ConnectionCheckedIn, ConnectionClosed, Replied, Reply, Pooled, Establishing, Warmed, Unheard, told}
 use Rattle.definition.specs.Steps.{Out, Act, _>>_, nothing, emit, leaveLent, leavePending, shelve, lendOut, createPendingConnection, closePerished, tellAll, enter, abandon, checkIn, clear, repin, shut, succeededForPool, removePerished, establish, lend, takeAvailable, checkOut, serveFront, service, serviced, handle, event, kindNo}
-use Rattle.definition.specs.Refusals.{refusalNo, Test, _if_, first, tests, kindTests, takenAfterClose, lastGeneration}
+use Rattle.definition.specs.Refusals.{refusalNo, Test, _if_, first, tests, kindTests, causeless, takenAfterClose, lastGeneration}
 use Rattle.definition.specs.declared.Event.{Event}
 use Rattle.definition.specs.declared.Event.the-variants.{CheckOut, WarmPool, Abandon, CheckIn, Clear, MarkAsReady, Succeeded, SucceededForPool, Failed, Maintenance, FillPool, Pin, ReturnToPinner, TakeFromPinner, Close}
 use Rattle.definition.specs.declared.Frame.{Frame}
 use Rattle.definition.specs.declared.Frame.the-variants.{Good, Bad}
 use Rattle.definition.specs.declared.Refusal.{Refusal}
-use Rattle.definition.specs.declared.Refusal.the-variants.{OutputShort, AfterClose, NumbersSpent, WrongTime}
+use Rattle.definition.specs.declared.Refusal.the-variants.{Malformed, OutputShort, AfterClose, NumbersSpent, WrongTime}
 use Rattle.definition.specs.declared.PoolState.the-variants.{Paused, Closed}
 use Rattle.definition.specs.declared.ConnectionState.{ConnectionState}
 use Rattle.definition.specs.declared.ConnectionState.the-variants.{CheckedIn, CheckedOut}
@@ -411,6 +411,11 @@ unfolding tests first if_then_else_
 short-output p Bad room h = rw (lt-ltb room 8192 h)
 short-output p (Good e now) room h = rw (lt-ltb room 8192 h)
 
+-- and then a clear that names no cause
+pub no-cause : (p : Pool) (timeout : Bool) (now room : ℕ) → 8192 ≤ room → first (tests p (Good (Clear timeout 0) now) room) ≡ some Malformed
+unfolding tests first if_then_else_
+no-cause p timeout now room r = rw (le-ltb room 8192 r)
+
 -- the events that name a connection
 abbrev pub namesConnection : Event → Bool
 namesConnection (CheckOut n) = false
@@ -430,10 +435,10 @@ namesConnection (TakeFromPinner n) = true
 namesConnection Close = false
 
 -- A closed pool takes these, if their own tests let them pass, and no others.
-pub closed-takes : (p : Pool) (e : Event) (now room : ℕ) → isClosed (p .state) ≡ true → 8192 ≤ room → p .clock ≤ now
+pub closed-takes : (p : Pool) (e : Event) (now room : ℕ) → isClosed (p .state) ≡ true → 8192 ≤ room → causeless e ≡ false → p .clock ≤ now
     → first (tests p (Good e now) room) ≡ (if namesConnection e then first (kindTests p e now) else some AfterClose)
 unfolding tests first if_then_else_
-closed-takes p e now room h r t = rw (le-ltb room 8192 r, le-ltb now (p .clock) t, h) (go e)
+closed-takes p e now room h r c t = rw (le-ltb room 8192 r, c, le-ltb now (p .clock) t, h) (go e)
   where
     go : (e : Event)
         → first ((AfterClose if not (takenAfterClose e)) ∷ (NumbersSpent if (kindNo e =? 5 && p .generation =? lastGeneration)) ∷ kindTests p e now)
@@ -456,12 +461,12 @@ closed-takes p e now room h r t = rw (le-ltb room 8192 r, le-ltb now (p .clock) 
 
 -- An open pool takes an event, if its own tests let it pass, up to next id 4,294,967,168; from the next on only the close. A clear is not
 -- taken at generation 4,294,967,295 either.
-pub open-takes : (p : Pool) (e : Event) (now room : ℕ) → isClosed (p .state) ≡ false → 8192 ≤ room → p .clock ≤ now
+pub open-takes : (p : Pool) (e : Event) (now room : ℕ) → isClosed (p .state) ≡ false → 8192 ≤ room → causeless e ≡ false → p .clock ≤ now
     → first (tests p (Good e now) room)
     ≡ (if not (kindNo e =? 15) && 4294967168 <? p .nextId || kindNo e =? 5 && p .generation =? 4294967295 then some NumbersSpent
     else first (kindTests p e now))
 unfolding tests first if_then_else_
-open-takes p e now room h r t = rw (le-ltb room 8192 r, le-ltb now (p .clock) t, h)
+open-takes p e now room h r c t = rw (le-ltb room 8192 r, c, le-ltb now (p .clock) t, h)
 
 -- ── The order of refusals ──────────────────────────────────────────────────────────────────────────────────────────────
 

@@ -15,7 +15,7 @@ use Rattle.definition.specs.Pool as D
 use Rattle.definition.specs.Pool.{fresh, withDefaults, inRange}
 use Rattle.definition.specs.Steps.{Out}
 use Rattle.definition.specs.Refusals as R
-use Rattle.definition.specs.Refusals.{enoughRoom, mostNextId, after, run, make}
+use Rattle.definition.specs.Refusals.{enoughRoom, after, run, make}
 use Rattle.definition.specs.Bytes.{frameOf}
 use Rattle.definition.specs.declared.Options.{Options}
 use Rattle.definition.specs.declared.Refusal.{Refusal}
@@ -28,13 +28,13 @@ use Rattle.slots.specs.Call.{call}
 use Rattle.slots.specs.declared.Outcome.{Outcome}
 use Rattle.slots.specs.declared.Outcome.the-variants.{Refused, Accepted}
 use Rattle.refinement.specs.Stands.{Stands, Formed}
-use Rattle.refinement.specs.Rules.{Rules, listsOf, rules-stand, formed-rules}
+use Rattle.refinement.specs.Rules.{Rules, listsOf, rules-stand, rules-formed, formed-rules}
 use Rattle.refinement.specs.Transit.{counted}
 use Rattle.refinement.specs.Call.{call-refines, refines-stands}
 use Rattle.refinement.specs.Alike.{freshSlots}
 use Rattle.refinement.specs.Formed.{fresh-stands, fresh-formed, call-formed, Lent, asCall, ran, wrote, writes, run-refines}
 use Rattle.event.specs.Laws.{call-short}
-use Rattle.rules.specs.Tests.{keepsRules}
+use Rattle.rules.specs.Tests.{hangsTogether, keepsRules}
 use Rattle.columns.specs.View.{idOf, viewOf, poolFrom}
 use Rattle.pool.specs.Making.{freshPool, noPool, notMade, making, makingFrom, countsOf}
 use Rattle.entry.specs.Entry.{Entered, entered, recordsIn, keeps, back, entry}
@@ -100,10 +100,9 @@ pub record Meant (p : Pool) (l : List ℕ) (w : Entered) (r : R.Result) : Type 0
   pub refuses : (x : Refusal) → r ≡ R.Refused x → w ≡ entered p l (Refused x)
   pub accepts : (o : Out D.Pool) → r ≡ R.Accepted o → Done p l w o
 
-pub entry-meant : (p : Pool) (m : D.Pool) → Stands (viewOf p) m → viewOf p .nextId ≤ mostNextId → (b l : List ℕ)
+pub entry-meant : (p : Pool) (m : D.Pool) → Stands (viewOf p) m → Formed (viewOf p) → (b l : List ℕ)
     → Meant p l (entry p b l) (R.step m (frameOf b) (length l))
-entry-meant p m st n b l =
-    let f : Formed (viewOf p) = record { lists = m; stands = st; numbers = n } in
+entry-meant p m st f b l =
     let one = call-refines (viewOf p) m st (frameOf b) l in
     let e = entry-back p f b l in
     record {
@@ -119,7 +118,7 @@ entry-meant p m st n b l =
 
 -- where the rules hold, on the lists that the pool stands for
 pub rules-meant : (p : Pool) → Rules (viewOf p) → (b l : List ℕ) → Meant p l (entry p b l) (R.step (listsOf (viewOf p)) (frameOf b) (length l))
-rules-meant p r b l = entry-meant p (listsOf (viewOf p)) (rules-stand (viewOf p) r) (r .numbers) b l
+rules-meant p r b l = entry-meant p (listsOf (viewOf p)) (rules-stand (viewOf p) r) (rules-formed (viewOf p) r) b l
 
 -- what the contract allows is one result: pool, output and answer
 pub determined : {p q : Pool} {l k : List ℕ} {o o' : Outcome} (w : Entered) → entered p l o ≡ w → entered q k o' ≡ w → (p ≡ q) × (l ≡ k) × (o ≡ o')
@@ -162,17 +161,16 @@ pub record Ran (cs : List Lend) (p : Pool) (m : D.Pool) : Type 0 where
   pub records : told cs p ≡ length (run (calls cs) m .records)
   pub formed : Formed (viewOf (left cs p))
 
-answered : (cs : List Lend) (p : Pool) (m : D.Pool) → Stands (viewOf p) m → viewOf p .nextId ≤ mostNextId → Answered cs p m
+answered : (cs : List Lend) (p : Pool) (m : D.Pool) → Stands (viewOf p) m → Formed (viewOf p) → Answered cs p m
 unfolding Answered
-answered [] p m st n = tt
-answered (c ∷ cs) p m st n =
-    let f : Formed (viewOf p) = record { lists = m; stands = st; numbers = n } in
+answered [] p m st f = tt
+answered (c ∷ cs) p m st f =
     let q = entry p (c .bytes) (c .out) .pool in
     let r = R.step m (frameOf (c .bytes)) (length (c .out)) in
     let s : Stands (viewOf q) (after m r .pool) =
     subst (λ (v : SlotPool). Stands v (after m r .pool)) (sym (entry-view p f (c .bytes) (c .out)))
     (refines-stands r st (call-refines (viewOf p) m st (frameOf (c .bytes)) (c .out))) in
-    (entry-meant p m st n (c .bytes) (c .out), answered cs q (after m r .pool) s (entry-formed p f (c .bytes) (c .out) .numbers))
+    (entry-meant p m st f (c .bytes) (c .out), answered cs q (after m r .pool) s (entry-formed p f (c .bytes) (c .out)))
 
 left-view : (cs : List Lend) (p : Pool) → Formed (viewOf p) → ran (map read cs) (viewOf p) ≡ viewOf (left cs p)
 unfolding ran left
@@ -202,12 +200,11 @@ told-writes (c ∷ cs) p f =
     told-writes cs q (entry-formed p f (c .bytes) (c .out)) ∙ ap (writes (map read cs)) (entry-view p f (c .bytes) (c .out)) in
     omega (arith, a, b)
 
-pub entries-run : (cs : List Lend) (p : Pool) (m : D.Pool) → Stands (viewOf p) m → viewOf p .nextId ≤ mostNextId → Ran cs p m
-entries-run cs p m st n =
-    let f : Formed (viewOf p) = record { lists = m; stands = st; numbers = n } in
+pub entries-run : (cs : List Lend) (p : Pool) (m : D.Pool) → Stands (viewOf p) m → Formed (viewOf p) → Ran cs p m
+entries-run cs p m st f =
     let r = run-refines (map read cs) (viewOf p) m st in
     record {
-      answers = answered cs p m st n;
+      answers = answered cs p m st f;
       pool = subst (λ (v : SlotPool). Stands v (run (calls cs) m .pool)) (left-view cs p f) (r .pool);
       records = told-writes cs p f ∙ r .records;
       formed = left-formed cs p f;
@@ -260,11 +257,11 @@ making-meant o = by-bool (inRange (withDefaults o))
 pub made-runs : (o : Options) → inRange (withDefaults o) ≡ true → (cs : List Lend) → Ran cs (making o .pool) (fresh (withDefaults o))
 made-runs o h cs =
     subst (λ (w : Made). Ran cs (w .pool) (fresh (withDefaults o))) (sym (making-makes o h))
-    (entries-run cs (freshPool (withDefaults o)) (fresh (withDefaults o)) (fresh-stands (withDefaults o) h) (omega arith))
+    (entries-run cs (freshPool (withDefaults o)) (fresh (withDefaults o)) (fresh-stands (withDefaults o) h) (fresh-formed (withDefaults o) h))
 
 -- what a refused making gives is not usable
 pub no-pool-keeps : keeps noPool ≡ false
-unfolding keepsRules inRange
+unfolding keepsRules hangsTogether inRange
 no-pool-keeps = refl
 
 pub no-pool-refuses : (b l : List ℕ) → entry noPool b l ≡ entered noPool l (Refused (shortOrBad l))

@@ -108,7 +108,7 @@ starts : Formed (viewOf start)
 starts = fresh-formed options in-range
 
 done1 : Done start room (entry start ready room) o1
-done1 = entry-meant start (fresh options) (fresh-stands options in-range) (omega arith) ready room .accepts o1
+done1 = entry-meant start (fresh options) (fresh-stands options in-range) starts ready room .accepts o1
     (ap (λ (f : Frame). R.step (fresh options) f (length room)) ready-frame ∙ ap (R.step (fresh options) (Good MarkAsReady 1)) room-long ∙ step1)
 
 abbrev next : Pool
@@ -118,7 +118,7 @@ goes-on : Formed (viewOf next)
 goes-on = entry-formed start starts ready room
 
 done2 : Done next room (entry next asked room) o2
-done2 = entry-meant next (o1 .pool) (done1 .pool) (goes-on .numbers) asked room .accepts o2
+done2 = entry-meant next (o1 .pool) (done1 .pool) goes-on asked room .accepts o2
     (ap (λ (f : Frame). R.step (o1 .pool) f (length room)) asked-frame ∙ ap (R.step (o1 .pool) (Good (CheckOut 1) 1)) room-long ∙ calls .second)
 
 -- ── Two wait, and two are available ────────────────────────────────────────────────────────────────────────────────────

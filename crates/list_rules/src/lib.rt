@@ -1,10 +1,12 @@
-// The rules on the available list and on the queue, each one a test: what stands in them is right, and past it stands nothing.
+// The rules on the available list and on the queue, each one a test: what stands in them is right, and past it stands nothing; nor
+// does anything stand in a slot past the pool's own.
 ghost use mathlib.Core.Path.{_≡_};
 ghost use Rattle.definition.specs.Pool.{slotCount, queueLength};
-ghost use Rattle.slots.specs.View.{orderIn};
+ghost use Rattle.slots.specs.View.{idsIn, orderIn};
 ghost use Rattle.list_rules.specs.Tests.{waiterFits, orderRight, blankFrom, queueRises};
 use definition::QUEUE;
 use definition::SLOTS;
+use slots::Numbers;
 use slots::ORDER;
 use slots::States;
 use slots::Waiters;
@@ -49,6 +51,26 @@ pub fn order_blank_from(states: &States, n: usize) -> bool
     let mut i = n;
     while i < SLOTS {
         if states[ORDER + i] != 0 {
+            ok = false;
+        }
+        i += 1;
+    }
+    ok
+}
+
+// ── the slots past the maximum ──
+
+// As order_blank_from, of the slots' ids.
+pub fn ids_blank_from(numbers: &Numbers, n: usize) -> bool
+    ensures { λ r. ⌜ r ≡ blankFrom slotCount n (idsIn (now (numbers .entry))) ⌝ }
+{
+    if SLOTS < n {
+        return true;
+    }
+    let mut ok = true;
+    let mut i = n;
+    while i < SLOTS {
+        if numbers[i] != 0 {
             ok = false;
         }
         i += 1;

@@ -43,7 +43,7 @@ sizes : (p : Pool) (o : Out Pool) → Moves [] [] p o → total (o .pool) + leng
 unfolding sumOf
 sizes p o m = omega (arith, simp (held-total, sum-length) at (m .even (λ n. 1)))
 
-plain-fits : (p : Pool) (o : Out Pool) → Moves [] [] p o → Plain p o → total (o .pool) ≤ total p
+pub plain-fits : (p : Pool) (o : Out Pool) → Moves [] [] p o → Plain p o → total (o .pool) ≤ total p
 plain-fits p o m h = omega (arith, sizes p o m, ap length (h .none-made))
 
 create-one : (why : Purpose) (p : Pool) → length (created (createPendingConnection why p .records)) ≡ 1
@@ -68,7 +68,7 @@ refill-count p = go (isReady (p .state))
 
 -- ── An event's own stage ───────────────────────────────────────────────────────────────────────────────────────────────
 
-abbrev Fits : ℕ → Out Pool → Type 0
+abbrev pub Fits : ℕ → Out Pool → Type 0
 Fits m o = total (o .pool) ≤ m
 
 fits-if : {b : Bool} {m : ℕ} (a₁ a₂ : Act Pool) (p : Pool) → (b ≡ true → Fits m (a₁ p)) → (b ≡ false → Fits m (a₂ p))
@@ -123,7 +123,7 @@ room-of : (l : List Conn) (a m : ℕ) (b : Bool) → (some? l || a <? m && b) �
 room-of [] a m b h e = omega (arith, ltb-true a m (and-left (a <? m) b h))
 room-of (c ∷ l) a m b h e = omega arith
 
-room : (p : Pool) → canService p ≡ true → total p ≤ p .options .maximum → total p < p .options .maximum + length (p .available)
+pub room : (p : Pool) → canService p ≡ true → total p ≤ p .options .maximum → total p < p .options .maximum + length (p .available)
 unfolding canService
 room p h f = room-of (p .available) _ _ _ (and-right (isReady (p .state)) _ h) f
 
@@ -144,38 +144,7 @@ service-fits : (p : Pool) → p .options .minimum ≤ p .options .maximum → to
 unfolding service
 service-fits p k f = fits-if _ _ p (λ h. serveFront-fits (p .waiting) p _ k f (room p h f)) (λ _. f)
 
--- ── Over a run ─────────────────────────────────────────────────────────────────────────────────────────────────────────
-
--- what holds of every pool that is reached
-pub record Reached (p : Pool) : Type 0 where
-  pub ordered : p .options .minimum ≤ p .options .maximum
-  pub fits : total p ≤ p .options .maximum
-  pub short : length (p .waiting) ≤ queueLength
-  pub calm : Calm p
-
--- an accepted request finds room in the queue
-kind-short : (p : Pool) (e : Event) (now : ℕ) → length (p .waiting) ≤ queueLength → first (kindTests p e now) ≡ none
-    → length (p .waiting) + length (arrivals e) ≤ queueLength
-kind-short p (CheckOut n) now h k = omega (arith, leb-false queueLength (length (p .waiting)) (not-first _ _ _ (not-first _ _ _ k .1) .0))
-kind-short p (WarmPool n) now h k = omega (arith, leb-false queueLength (length (p .waiting)) (not-first _ _ _ (not-first _ _ _ k .1) .0))
-kind-short p (Abandon n) now h k = omega arith
-kind-short p (CheckIn n errored executing letGo) now h k = omega arith
-kind-short p (Clear timeout cause) now h k = omega arith
-kind-short p MarkAsReady now h k = omega arith
-kind-short p (Succeeded n) now h k = omega arith
-kind-short p (SucceededForPool n opened) now h k = omega arith
-kind-short p (Failed n) now h k = omega arith
-kind-short p Maintenance now h k = omega arith
-kind-short p FillPool now h k = omega arith
-kind-short p (Pin n) now h k = omega arith
-kind-short p (ReturnToPinner n) now h k = omega arith
-kind-short p (TakeFromPinner n) now h k = omega arith
-kind-short p Close now h k = omega arith
-
-step-short : (p : Pool) (f : Frame) (room : ℕ) (r : Result) → Stepped p f room r → Reached p → length (after p r .pool .waiting) ≤ queueLength
-step-short p f room r (no-step n) g = g .short
-step-short p f room r (a-step {e = e} {now = now} {room = room'} h) g =
-    omega (arith, flow-lengths p _ (step-flow p (Good e now) room' _ (g .calm) (a-step h)), kind-short p e now (g .short) (passed-kind p e now room' h))
+-- ── One event ──────────────────────────────────────────────────────────────────────────────────────────────────────────
 
 -- the service stage of a pool that fits
 serviced-fits : (b : Bool) (p : Pool) (m : ℕ) → p .options .maximum ≡ m → p .options .minimum ≤ m → total p ≤ m
@@ -184,30 +153,9 @@ unfolding if_then_else_
 serviced-fits true p m e k f = omega (arith, service-fits p (omega arith) (omega arith))
 serviced-fits false p m e k f = f
 
-event-fits : (e : Event) (p : Pool) → Named e p → p .options .minimum ≤ p .options .maximum → total p ≤ p .options .maximum
+pub event-fits : (e : Event) (p : Pool) → Named e p → p .options .minimum ≤ p .options .maximum → total p ≤ p .options .maximum
     → Fits (p .options .maximum) (event e p)
 unfolding event _>>_
 event-fits e p n k f =
     let o = handle-keeps e p .options-stay in
     serviced-fits (serviced e) (handle e p .pool) _ (rw o) (rw o k) (handle-fits e p _ n k f)
-
-step-fits : (p : Pool) (f : Frame) (room : ℕ) (r : Result) → Stepped p f room r → Reached p → Fits (p .options .maximum) (after p r)
-step-fits p f room r (no-step n) g = g .fits
-step-fits p f room r (a-step {e = e} {now = now} {room = room'} h) g =
-    event-fits e (withClock p now) (passed-named p e now room' h) (g .ordered) (g .fits)
-
-step-reached : (p : Pool) (f : Frame) (room : ℕ) (r : Result) → Stepped p f room r → Reached p → Reached (after p r .pool)
-step-reached p f room r s g = record {
-  ordered = rw (step-options p f room r s) (g .ordered);
-  fits = rw (step-options p f room r s) (step-fits p f room r s g);
-  short = step-short p f room r s g;
-  calm = step-calms p f room r s (g .calm);
-}
-
-pub run-reached : (cs : List Call) (p : Pool) → Reached p → Reached (run cs p .pool)
-unfolding run _>>_
-run-reached [] p g = g
-run-reached (c ∷ cs) p g = run-reached cs (next p c) (step-reached p (c .frame) (c .room) _ (stepped p (c .frame) (c .room)) g)
-
-pub fresh-reached : (o : Options) → o .minimum ≤ o .maximum → Reached (fresh o)
-fresh-reached o h = record { ordered = h; fits = omega arith; short = omega arith; calm = fresh-calm o }

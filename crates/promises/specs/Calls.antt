@@ -11,7 +11,7 @@ use Rattle.definition.specs.Laws.{not-first}
 use Rattle.definition.specs.Words.{if_then_else_}
 use Rattle.definition.specs.Pool.{Pool, isClosed, has, withClock}
 use Rattle.definition.specs.Steps.{event}
-use Rattle.definition.specs.Refusals.{Test, _if_, first, tests, kindTests, takenAfterClose, step, outcome, verdict, counted, Result, Refused, Accepted}
+use Rattle.definition.specs.Refusals.{Test, _if_, first, tests, kindTests, causeless, takenAfterClose, step, outcome, verdict, counted, Result, Refused, Accepted}
 use Rattle.definition.specs.declared.Event.{Event}
 use Rattle.definition.specs.declared.Event.the-variants.{CheckOut, WarmPool, Abandon, CheckIn, Clear, MarkAsReady, Succeeded, SucceededForPool, Failed, Maintenance, FillPool, Pin, ReturnToPinner, TakeFromPinner, Close}
 use Rattle.definition.specs.declared.Frame.{Frame}
@@ -36,13 +36,17 @@ stepped p f room = go f (first (tests p f room)) refl
     go Bad none h = absurd (true≢false (not-first _ true _ (not-first _ _ _ h .1) .0))
 
 -- an accepted call passed each test
+pub passed-caused : (p : Pool) (e : Event) (now room : ℕ) → Passed p e now room → causeless e ≡ false
+unfolding tests
+passed-caused p e now room h = not-first _ _ _ (not-first _ _ _ h .1) .0
+
 pub passed-open : (p : Pool) (e : Event) (now room : ℕ) → Passed p e now room → isClosed (p .state) && not (takenAfterClose e) ≡ false
 unfolding tests
-passed-open p e now room h = not-first _ _ _ (not-first _ _ _ (not-first _ _ _ h .1) .1) .0
+passed-open p e now room h = not-first _ _ _ (not-first _ _ _ (not-first _ _ _ (not-first _ _ _ h .1) .1) .1) .0
 
 pub passed-kind : (p : Pool) (e : Event) (now room : ℕ) → Passed p e now room → first (kindTests p e now) ≡ none
 unfolding tests
-passed-kind p e now room h = not-first _ _ _ (not-first _ _ _ (not-first _ _ _ (not-first _ _ _ h .1) .1) .1) .1
+passed-kind p e now room h = not-first _ _ _ (not-first _ _ _ (not-first _ _ _ (not-first _ _ _ (not-first _ _ _ h .1) .1) .1) .1) .1
 
 -- a connection that the event names is where the event needs it
 unfoldable pub Named : Event → Pool → Type 0
@@ -62,7 +66,7 @@ Named (ReturnToPinner n) p = Unit {0}
 Named (TakeFromPinner n) p = Unit {0}
 Named Close p = Unit {0}
 
-kind-named : (p : Pool) (e : Event) (now : ℕ) → first (kindTests p e now) ≡ none → Named e (withClock p now)
+pub kind-named : (p : Pool) (e : Event) (now : ℕ) → first (kindTests p e now) ≡ none → Named e (withClock p now)
 unfolding Named
 kind-named p (CheckOut n) now h = tt
 kind-named p (WarmPool n) now h = tt

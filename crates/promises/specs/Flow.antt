@@ -186,7 +186,7 @@ unfolding clear enter _>>_ Calm
 clear-calms timeout cause p =
     record { calms = λ k h. clear-empties (isReady (p .state)) timeout (PoolCleared timeout cause (p .generation + 1)) (Interrupt (length (p .lent))) (Cleared cause) p k }
 
-handle-calms : (e : Event) (p : Pool) → Calms p (handle e p)
+pub handle-calms : (e : Event) (p : Pool) → Calms p (handle e p)
 unfolding handle checkIn markAsReady succeeded succeededForPool failed maintenance ensureMinConnections repin shut leaveLent leavePending shelve lendOut enter tellAll _>>_
 handle-calms (CheckOut n) p = request-calms n false p
 handle-calms (WarmPool n) p = request-calms n true p

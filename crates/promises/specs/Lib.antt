@@ -6,6 +6,9 @@ pub mod Sums
 pub mod Conserve
 pub mod Numbered
 pub mod Bound
+pub mod States
+pub mod Reached
+pub mod Tested
 pub mod RecordCounts
 pub mod Promises
 pub mod Progress

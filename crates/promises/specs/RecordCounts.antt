@@ -20,7 +20,8 @@ use Rattle.definition.specs.Log.{closed}
 use Rattle.definition.specs.Sentences.{if-both}
 use Rattle.definition.specs.RecordBound.{Few, few-then, handle-few, service-few}
 use Rattle.promises.specs.Calls.{Named, Stepped, no-step, a-step, passed-named}
-use Rattle.promises.specs.Bound.{Reached, handle-fits}
+use Rattle.promises.specs.Bound.{handle-fits}
+use Rattle.promises.specs.Reached.{Reached}
 
 -- ── Closed by a service stage ──────────────────────────────────────────────────────────────────────────────────────────
 

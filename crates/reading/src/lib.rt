@@ -48,9 +48,6 @@ fn check_in_frame(flags: u8, id: u32, time: u64, second: u64) -> Frame
 fn clear_frame(flags: u8, id: u32, time: u64, second: u64) -> Frame
     ensures { λ r. ⌜ r ≡ clearFrame flags id time second ⌝ }
 {
-    if id == 0 {
-        return Frame::Bad;
-    }
     match flags {
         0 => plain_frame(0, second, Frame::Good(Event::Clear(false, id), time)),
         1 => plain_frame(0, second, Frame::Good(Event::Clear(true, id), time)),

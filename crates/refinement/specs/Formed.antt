@@ -11,8 +11,10 @@ use borrow.Author.Tests.{ltb-false, leb-true}
 use Rattle.definition.specs.Limits.{Limits, limits-of}
 use Rattle.definition.specs.Booleans.{by-bool}
 use Rattle.definition.specs.Words.{if_then_else_, _<?_, _≤?_, _=?_}
-use Rattle.definition.specs.Pool.{queueLength, Pool, fresh, inRange, slotCount, isClosed}
-use Rattle.definition.specs.Steps.{_>>_, kindNo}
+use Rattle.definition.specs.Pool as P
+use Rattle.definition.specs.Pool.{queueLength, Pool, fresh, inRange, slotCount, isClosed, total}
+use Rattle.definition.specs.Steps as D
+use Rattle.definition.specs.Steps.{_>>_, kindNo, serviced}
 use Rattle.definition.specs.Refusals as R
 use Rattle.definition.specs.Refusals.{first, enoughRoom, lastNextId, takenAfterClose, after, run, mostNextId}
 use Rattle.definition.specs.declared.Options.{Options}
@@ -23,6 +25,9 @@ use Rattle.definition.specs.declared.Frame.the-variants.{Good, Bad}
 use Rattle.definition.specs.declared.PoolState.the-variants.{New}
 use Rattle.definition.specs.declared.Refusal.{Refusal}
 use Rattle.definition.specs.declared.Refusal.the-variants.{OutputShort}
+use Rattle.promises.specs.Calls.{Named, kind-named, stepped}
+use Rattle.promises.specs.Bound.{handle-fits, event-fits}
+use Rattle.promises.specs.Reached.{Reached, step-reached, fresh-reached}
 use Rattle.slots.specs.View.{SlotPool, Slot, numbersLength, statesLength, poolOf, vacant}
 use Rattle.slots.specs.Columns.{column-blank}
 use Rattle.slots.specs.Parts.{slots-blank}
@@ -38,10 +43,12 @@ use Rattle.refinement.specs.Table.{look-none, lookup, one-zero}
 use Rattle.refinement.specs.Agree.{Class, Agrees, only, only-none}
 use Rattle.refinement.specs.Mirror.{isLent, isPending}
 use Rattle.refinement.specs.Alike.{freshSlots, freshHead, alike-fresh}
+use Rattle.refinement.specs.Sites.{Spare, Dated, Sited, handle-sites, serviced-sites}
 use Rattle.refinement.specs.Stands.{Stands, Formed}
-use Rattle.refinement.specs.Tests.{Passed, tests-passed}
+use Rattle.refinement.specs.Events.{fit-clock, handle-same, event-same}
+use Rattle.refinement.specs.Tests.{Passed, tests-passed, tests-same, kind-passed}
 use Rattle.refinement.specs.Leaves.{news-most, event-leaves, closed-leaves, close-leaves}
-use Rattle.refinement.specs.Call.{Refines, call-refines, refines-stands}
+use Rattle.refinement.specs.Call.{Refines, call-refines, refines-stands, clock-stands}
 
 -- ── A fresh pool ───────────────────────────────────────────────────────────────────────────────────────────────────────
 
@@ -97,8 +104,20 @@ fresh-stands o h = record {
   };
 }
 
+fresh-sited : (o : Options) → Sited (freshSlots o)
+fresh-sited o = record {
+  spare = λ j a. zeros slotCount j;
+  dated = λ j. subst (Dated 0 0) (sym (vacants slotCount j)) (omega arith, omega arith);
+}
+
 pub fresh-formed : (o : Options) → inRange o ≡ true → Formed (freshSlots o)
-fresh-formed o h = record { lists = fresh o; stands = fresh-stands o h; numbers = omega arith }
+fresh-formed o h = record {
+  lists = fresh o;
+  stands = fresh-stands o h;
+  reached = fresh-reached o (limits-of o h .minimum);
+  sited = fresh-sited o;
+  numbers = omega arith;
+}
 
 -- ── A call ─────────────────────────────────────────────────────────────────────────────────────────────────────────────
 
@@ -158,10 +177,55 @@ call-numbers p l (Good e now) st n = go (length l <? enoughRoom) (first (C.tests
     go false none h = event-numbers p e now (target p e) (st .alike .limits) (tests-passed st e now h) n
     go false (some r) h = n
 
+-- as many slots are taken as the lists have connections
+taken-total : {p : SlotPool} {m : Pool} → Stands p m → taken (p .ids) ≡ total m
+taken-total st = sym (st .table .holds) ∙ st .table .total
+
+-- an event of a pool whose slots are sited: after either stage no more than the maximum are taken
+event-sited : (p : SlotPool) (m : Pool) (e : Event) (now : ℕ) → Stands p m → Reached m → Sited p → Passed p e now → Named e (P.withClock m now)
+    → Sited (S.event e (target p e) (View.withClock p now) .pool)
+unfolding S.event _>>_
+event-sited p m e now st g s h named =
+    let i = target p e in
+    let q = View.withClock p now in
+    let n = P.withClock m now in
+    let f = fit-clock now p i e (h .fit) in
+    let sq = clock-stands now st in
+    let own = handle-same e i q n sq f .stands in
+    let all = event-same e i q n sq f .stands in
+    let most : m .options .maximum ≡ p .options .maximum = ap (λ (o : Options). o .maximum) (sym (st .alike .options)) in
+    let a = handle-sites {m = p .options .maximum} e i q (h .timely) in
+    let b = serviced-sites {m = p .options .maximum} (serviced e) (S.handle e i q .pool) in
+    let fits : total (D.handle e n .pool) ≤ m .options .maximum = handle-fits e n (m .options .maximum) named (g .ordered) (g .fits) in
+    let spare : Spare (p .options .maximum) (S.handle e i q .pool .ids) =
+    a .spares (s .spare) (own .table .mirror .longIds) (omega (arith, taken-total own, fits, most)) in
+    let options = event-leaves e i q .options in
+    record {
+      spare = subst (λ (o : Options). Spare (o .maximum) (S.event e i q .pool .ids)) (sym options)
+          (b .spares spare (all .table .mirror .longIds) (omega (arith, taken-total all, event-fits e n named (g .ordered) (g .fits), most)));
+      dated = b .dates (a .dates (λ j. (s .dated j .0, omega (arith, s .dated j .1, h .clock))));
+    }
+
+-- a refused call leaves them as they are
+call-sited : (p : SlotPool) (m : Pool) (l : List ℕ) (f : Frame) → Stands p m → Reached m → Sited p → Sited (C.call p l f .pool)
+unfolding C.call C.step C.verdict if_then_else_
+call-sited p m l Bad st g s = s
+call-sited p m l (Good e now) st g s = go (length l <? enoughRoom) (first (C.tests p e now)) refl
+  where
+    go : (b : Bool) (x : Option Refusal) → first (C.tests p e now) ≡ x
+        → Sited ((if b then world p l (Refused OutputShort) else C.judged p l e now (C.orAccept (target p e) x)) .pool)
+    go true x h = s
+    go false none h =
+        let done = event-sited p m e now st g s (tests-passed st e now h) (kind-named m e now (kind-passed m e now (sym (tests-same st e now) ∙ h))) in
+        record { spare = done .spare; dated = done .dated }
+    go false (some r) h = s
+
 pub call-formed : (p : SlotPool) (l : List ℕ) (f : Frame) → Formed p → Formed (C.call p l f .pool)
 call-formed p l f h = record {
   lists = after (h .lists) (R.step (h .lists) f (length l)) .pool;
   stands = refines-stands (R.step (h .lists) f (length l)) (h .stands) (call-refines p (h .lists) (h .stands) f l);
+  reached = step-reached (h .lists) f (length l) _ (stepped (h .lists) f (length l)) (h .reached);
+  sited = call-sited p (h .lists) l f (h .stands) (h .reached) (h .sited);
   numbers = call-numbers p l f (h .stands) (h .numbers);
 }
 

@@ -3,6 +3,7 @@ pub mod Table
 pub mod Agree
 pub mod Mirror
 pub mod Alike
+pub mod Sites
 pub mod Stands
 pub mod Order
 pub mod Transit
@@ -19,3 +20,4 @@ pub mod Formed
 pub mod Needs
 pub mod RecordRoom
 pub mod Rules
+pub mod Places

@@ -12,9 +12,13 @@ use borrow.Author.Tests.{eq-eqb, ne-eqb}
 use Rattle.definition.specs.Limits.{Limits}
 use Rattle.definition.specs.Booleans.{by-bool, by-eq}
 use Rattle.definition.specs.Words.{if_then_else_, _=?_}
+use Rattle.definition.specs.Pool as P
 use Rattle.definition.specs.Pool.{queueLength, slotCount, Pool, Conn, without, stateOfNo}
 use Rattle.definition.specs.Refusals.{mostNextId}
 use Rattle.definition.specs.Laws.{number-back}
+use Rattle.definition.specs.declared.Options.{Options}
+use Rattle.promises.specs.States.{stateFits, Stated}
+use Rattle.promises.specs.Reached.{Reached}
 use Rattle.slots.specs.View.{SlotPool, Slot, Whole, vacant}
 use Rattle.slots.specs.View as View
 use Rattle.slots.specs.Slots as S
@@ -23,8 +27,10 @@ use Rattle.refinement.specs.Table.{Unique, unique-tail, look, cell, conn
 use Rattle.refinement.specs.Agree.{Class, Agrees, only}
 use Rattle.refinement.specs.Mirror.{isLent, isPending, All, Distinct, Listed, Used, view}
 use Rattle.refinement.specs.Alike.{Rises, listsWith, alike-lists}
+use Rattle.refinement.specs.Sites.{Sited}
 use Rattle.refinement.specs.Stands.{Stands, Formed}
 use Rattle.refinement.specs.Transit.{counted}
+use Rattle.refinement.specs.Queue.{waiters-counted}
 use Rattle.refinement.specs.Needs.{whole}
 
 -- ── The connections of a class, in the order of their slots ────────────────────────────────────────────────────────────
@@ -191,6 +197,9 @@ pub record Rules (p : SlotPool) : Type 0 where
   pub rises : Rises 0 (p .lastRequest) (S.waitersOf p)
   pub serial : p .serial < 4294967296
   pub numbers : p .nextId ≤ mostNextId
+  pub bounded : p .total ≤ p .options .maximum
+  pub state : stateFits (p .state) (p .generation) (p .nextId) (p .total) (p .availables) (p .waitings) ≡ true
+  pub sited : Sited p
 
 -- the lists that such a pool stands for
 abbrev pub listsOf : SlotPool → Pool
@@ -227,11 +236,29 @@ rules-stand p r =
       };
     }
 
+-- what the state says is said of the counts on slots as of the lists
+state-same : {p : SlotPool} {m : Pool} → Stands p m
+    → stateFits (p .state) (p .generation) (p .nextId) (p .total) (p .availables) (p .waitings) ≡ stateFits (m .state) (m .generation) (m .nextId) (P.total m) (length (m .available)) (length (m .waiting))
+state-same {p} {m} st =
+    rw (st .alike .state, st .alike .generation, st .alike .nextId, st .table .total, sym (counted (st .table)), sym (waiters-counted (st .alike .queue)))
+
+rules-reached : (p : SlotPool) → Rules p → Reached (listsOf p)
+unfolding Stated
+rules-reached p r =
+    let st = rules-stand p r in
+    record {
+      ordered = r .limits .minimum;
+      fits = omega (arith, st .table .total, r .bounded);
+      short = omega (arith, waiters-counted (st .alike .queue), r .queue);
+      state = sym (state-same st) ∙ r .state;
+    }
+
 pub rules-formed : (p : SlotPool) → Rules p → Formed p
-rules-formed p r = record { lists = listsOf p; stands = rules-stand p r; numbers = r .numbers }
+rules-formed p r = record { lists = listsOf p; stands = rules-stand p r; reached = rules-reached p r; sited = r .sited; numbers = r .numbers }
 
 -- and every formed pool keeps them
 pub formed-rules : (p : SlotPool) → Formed p → Rules p
+unfolding Stated
 formed-rules p f =
     let st = f .stands in
     let k = st .table .mirror in
@@ -257,4 +284,7 @@ formed-rules p f =
       rises = rw (st .alike .queue .waits) (st .alike .queue .rises);
       serial = rw (st .alike .serial) (mod-lt (f .lists .written) {m = 4294967296} (omega arith));
       numbers = f .numbers;
+      bounded = omega (arith, st .table .total, f .reached .fits, ap (λ (o : Options). o .maximum) (st .alike .options));
+      state = state-same st ∙ f .reached .state;
+      sited = f .sited;
     }

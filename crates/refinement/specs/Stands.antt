@@ -8,7 +8,9 @@ use Rattle.definition.specs.Refusals.{mostNextId}
 use Rattle.definition.specs.Steps.{Out}
 use Rattle.slots.specs.View.{SlotPool, Slot}
 use Rattle.slots.specs.Needs.{taken}
+use Rattle.promises.specs.Reached.{Reached}
 use Rattle.refinement.specs.Alike.{Alike}
+use Rattle.refinement.specs.Sites.{Sited}
 use Rattle.refinement.specs.Mirror.{Mirror}
 
 -- the connections: the first n cells of `order` list the available ones; t counts all, c the pending
@@ -30,8 +32,11 @@ pub record Same (o : Out SlotPool) (o' : Out Pool) : Type 0 where
   pub records : o .records ≡ o' .records
   pub stands : Stands (o .pool) (o' .pool)
 
--- a pool that stands for lists; its next id is in its bound
+-- a pool that is reached, or could be as far as its structure tells: it stands for lists that are as those of reached pools are, its
+-- slots are sited, and its next id is in its bound
 pub record Formed (p : SlotPool) : Type 0 where
   pub lists : Pool
   pub stands : Stands p lists
+  pub reached : Reached lists
+  pub sited : Sited p
   pub numbers : p .nextId ≤ mostNextId

@@ -7,19 +7,19 @@ use Prim.Native.Nat.{ℕ, _≤_, _<_, _/_}
 use native.Mathlib.Omega.{arith}
 use lib.ListN.{length, List·getD-eq-default}
 use borrow.Author.Tests.{eqb-true, ne-eqb, leb-false, ltb-true, ltb-false, not-false}
-use Rattle.definition.specs.Booleans.{by-bool, by-eq, by-lt, and-left, and-right}
+use Rattle.definition.specs.Booleans.{by-bool, by-eq, by-lt, and-left, and-right, or-left}
 use Rattle.definition.specs.Laws.{not-first}
 use Rattle.definition.specs.Words.{if_then_else_, _<?_, _≤?_, _=?_}
 use Rattle.definition.specs.Pool as P
 use Rattle.definition.specs.Pool.{queueLength, slotCount, Pool, Conn, isClosed, has, hasIn, find, stateNo}
 use Rattle.definition.specs.Steps.{kindNo, _to_holds_}
 use Rattle.definition.specs.Refusals as R
-use Rattle.definition.specs.Refusals.{Test, _if_, first, wrongTime, takenAfterClose, lastNextId, lastGeneration}
+use Rattle.definition.specs.Refusals.{Test, _if_, first, wrongTime, causeless, takenAfterClose, lastNextId, lastGeneration}
 use Rattle.definition.specs.declared.Event.{Event}
 use Rattle.definition.specs.declared.Event.the-variants.{CheckOut, WarmPool, Abandon, CheckIn, Clear, MarkAsReady, Succeeded, SucceededForPool, Failed, Maintenance, FillPool, Pin, ReturnToPinner, TakeFromPinner, Close}
 use Rattle.definition.specs.declared.PoolState.{PoolState}
 use Rattle.definition.specs.declared.Refusal.{Refusal}
-use Rattle.definition.specs.declared.Refusal.the-variants.{ClockBack, AfterClose, NumbersSpent, OldRequest, QueueFull, WrongState, WrongTime, NotWaiting, AlreadyPinned}
+use Rattle.definition.specs.declared.Refusal.the-variants.{Malformed, ClockBack, AfterClose, NumbersSpent, OldRequest, QueueFull, WrongState, WrongTime, NotWaiting, AlreadyPinned}
 use Rattle.slots.specs.OrderLaws.{place-found}
 use Rattle.slots.specs.Finding.{holding-at, holding-none}
 use Rattle.slots.specs.View.{SlotPool, Slot, vacant}
@@ -31,6 +31,7 @@ use Rattle.slots.specs.Call.{slotOf, waiterOf?, stateOf, timeOf, target}
 use Rattle.refinement.specs.Table.{look-at, look-none, cell, lookup, has-it, has-not}
 use Rattle.refinement.specs.Agree.{Class, Agrees, only, only-out, only-none}
 use Rattle.refinement.specs.Mirror.{isLent, isPending, lengths, inIds}
+use Rattle.refinement.specs.Sites.{Timely}
 use Rattle.refinement.specs.Stands.{Stands}
 use Rattle.refinement.specs.Order.{within, holds-in, holds-below, holds-above}
 use Rattle.refinement.specs.Transit.{seen}
@@ -107,7 +108,7 @@ pinned-lent k h = let w = within 3 4 k h in holds-in 2 4 k (omega arith) (omega 
 -- the definition's tests of an event, the room for records apart
 abbrev pub eventTests : Pool → Event → ℕ → List Test
 eventTests m e now =
-    (ClockBack if now <? m .clock) ∷ (AfterClose if isClosed (m .state) && not (takenAfterClose e)) ∷ (NumbersSpent if R.numbersSpent m e) ∷ R.kindTests m e now
+    (Malformed if causeless e) ∷ (ClockBack if now <? m .clock) ∷ (AfterClose if isClosed (m .state) && not (takenAfterClose e)) ∷ (NumbersSpent if R.numbersSpent m e) ∷ R.kindTests m e now
 
 module _ {p : SlotPool} {m : Pool} (st : Stands p m) where
   abbrev lents : Agrees isLent (p .ids) (p .slots) (m .lent)
@@ -167,25 +168,59 @@ module _ {p : SlotPool} {m : Pool} (st : Stands p m) where
   pub tests-same : (e : Event) (now : ℕ) → first (C.tests p e now) ≡ first (eventTests m e now)
   unfolding C.tests
   tests-same e now =
-      first-same ClockBack (now <? p .clock) (now <? m .clock) _ _ (ap (λ (x : ℕ). now <? x) (st .alike .clock))
+      first-same Malformed (causeless e) (causeless e) _ _ refl
+      (λ _. first-same ClockBack (now <? p .clock) (now <? m .clock) _ _ (ap (λ (x : ℕ). now <? x) (st .alike .clock))
       (λ _. first-same AfterClose (isClosed (p .state) && not (takenAfterClose e)) (isClosed (m .state) && not (takenAfterClose e)) _ _ (ap (λ (x : PoolState). isClosed x && not (takenAfterClose e)) (st .alike .state))
       (λ _. first-same NumbersSpent (C.numbersSpent p e) (R.numbersSpent m e) _ _ (spent-same e)
-      (λ _. kind-tests e now)))
+      (λ _. kind-tests e now))))
+
+-- where the definition's tests do not hold, those of the event's kind do not
+pub kind-passed : (m : Pool) (e : Event) (now : ℕ) → first (eventTests m e now) ≡ none → first (R.kindTests m e now) ≡ none
+kind-passed m e now h =
+    let n = not-first Malformed (causeless e) _ h in
+    let a = not-first ClockBack (now <? m .clock) _ (n .1) in
+    let b = not-first AfterClose (isClosed (m .state) && not (takenAfterClose e)) _ (a .1) in
+    not-first NumbersSpent (R.numbersSpent m e) _ (b .1) .1
 
 -- ── Where no test holds ────────────────────────────────────────────────────────────────────────────────────────────────
 
 -- the event is not refused
 pub record Passed (p : SlotPool) (e : Event) (now : ℕ) : Type 0 where
+  pub caused : causeless e ≡ false
   pub clock : p .clock ≤ now
   pub taken : (isClosed (p .state) && not (takenAfterClose e)) ≡ false
   pub numbers : C.numbersSpent p e ≡ false
   pub fit : Fit e p (target p e)
+  pub timely : Timely e now
 
 pub new-fit : (p : SlotPool) (n : ℕ) → first (C.requestTests p n) ≡ none → New n p
 new-fit p n h =
     let a = not-first OldRequest (n ≤? p .lastRequest) _ h in
     let b = not-first QueueFull (queueLength ≤? p .waitings) [] (a .1) in
     record { later = leb-false n (p .lastRequest) (a .0); room = leb-false queueLength (p .waitings) (b .0) }
+
+-- a second time that is not refused has come
+not-to-come : (second last now : ℕ) → wrongTime second last now ≡ false → second ≤ now
+not-to-come second last now h = ltb-false now second (or-left (now <? second) (second <? last) h)
+
+kind-timely : (p : SlotPool) (e : Event) (now : ℕ) → first (C.kindTests p e now) ≡ none → Timely e now
+kind-timely p (CheckOut n) now h = tt
+kind-timely p (WarmPool n) now h = tt
+kind-timely p (Abandon n) now h = tt
+kind-timely p (CheckIn n errored executing letGo) now h =
+    not-to-come letGo (timeOf p n) now (not-first WrongTime (wrongTime letGo (timeOf p n) now) [] (not-first WrongState _ _ h .1) .0)
+kind-timely p (Clear timeout cause) now h = tt
+kind-timely p MarkAsReady now h = tt
+kind-timely p (Succeeded n) now h = tt
+kind-timely p (SucceededForPool n opened) now h =
+    not-to-come opened (timeOf p n) now (not-first WrongTime (wrongTime opened (timeOf p n) now) [] (not-first WrongState _ _ h .1) .0)
+kind-timely p (Failed n) now h = tt
+kind-timely p Maintenance now h = tt
+kind-timely p FillPool now h = tt
+kind-timely p (Pin n) now h = tt
+kind-timely p (ReturnToPinner n) now h = tt
+kind-timely p (TakeFromPinner n) now h = tt
+kind-timely p Close now h = tt
 
 module _ {p : SlotPool} {m : Pool} (st : Stands p m) where
   lent-fit : (n : ℕ) → isLent (stateOf p n) ≡ true → Holds isLent n p (slotOf p n)
@@ -217,10 +252,11 @@ module _ {p : SlotPool} {m : Pool} (st : Stands p m) where
   pub tests-passed : (e : Event) (now : ℕ) → first (C.tests p e now) ≡ none → Passed p e now
   unfolding C.tests
   tests-passed e now h =
-      let a = not-first ClockBack (now <? p .clock) _ h in
+      let n = not-first Malformed (causeless e) _ h in
+      let a = not-first ClockBack (now <? p .clock) _ (n .1) in
       let b = not-first AfterClose (isClosed (p .state) && not (takenAfterClose e)) _ (a .1) in
       let c = not-first NumbersSpent (C.numbersSpent p e) _ (b .1) in
-      record { clock = ltb-false now (p .clock) (a .0); taken = b .0; numbers = c .0; fit = kind-fit e now (c .1) }
+      record { caused = n .0; clock = ltb-false now (p .clock) (a .0); taken = b .0; numbers = c .0; fit = kind-fit e now (c .1); timely = kind-timely p e now (c .1) }
 
   -- and so where the verdict names a slot or a waiter: it is the event's
   pub verdict-passed : (e : Event) (now i : ℕ) → C.verdict p e now ≡ Accept i → Passed p e now × (i ≡ target p e)

@@ -10,7 +10,7 @@ use Rattle.definition.specs.Words.{_≤?_}
 use Rattle.slots.specs.declared.Head.{Head}
 use Rattle.slot_rules.specs.Tests.{idsBelow, idsDistinct, slotsFit, countsRight}
 use Rattle.list_rules.specs.Tests.{orderRight, blankFrom, queueRises}
-use Rattle.rules.specs.Tests.{keepsRules}
+use Rattle.rules.specs.Tests.{hangsTogether}
 
 pub all-tested : (h : Head) (ns ts ss ws : List ℕ)
     {inside options below distinct fit counts order past queue rest ids slots one listed held waiting two r : Bool}
@@ -21,7 +21,7 @@ pub all-tested : (h : Head) (ns ts ss ws : List ℕ)
     → queue ≡ queueRises ws (h .«waiting_count») (h .«last_request») → rest ≡ blankFrom queueLength (h .«waiting_count») ws
     → ids ≡ (distinct && fit) → slots ≡ (below && ids) → one ≡ (options && slots)
     → listed ≡ (order && past) → held ≡ (counts && listed) → waiting ≡ (queue && rest) → two ≡ (held && waiting) → r ≡ (one && two)
-    → r ≡ keepsRules h ns ts ss ws
-unfolding keepsRules
+    → r ≡ hangsTogether h ns ts ss ws
+unfolding hangsTogether
 all-tested h ns ts ss ws e₁ e₂ e₃ e₄ e₅ e₆ e₇ e₈ e₉ e₁₀ f₁ f₂ f₃ f₄ f₅ f₆ f₇ f₈ =
     rw (f₈, f₃, f₇, f₂, f₁, f₅, f₄, f₆, e₂, e₁, e₃, e₄, e₅, e₆, e₇, e₈, e₉, e₁₀)

@@ -1,8 +1,8 @@
 -- The structure test accepts exactly the pools that keep the rules, which are the formed ones.
-use mathlib.Core.Path.{_≡_, refl, sym, ap, _∙_}
+use mathlib.Core.Path.{_≡_, refl, sym, ap, subst, _∙_}
 use mathlib.Core.Bool.{Bool, true, false, not, _&&_, false≢true}
 use mathlib.Core.List.{List, map}
-use Prim.Native.Nat.{ℕ, zero, suc, _/_, _≤_, _<_}
+use Prim.Native.Nat.{ℕ, zero, suc, _+_, _/_, _≤_, _<_}
 use native.Mathlib.Omega.{arith}
 use lib.ListN.{length, getD, take}
 use lib.Seq.{getD-take, length-take-le}
@@ -23,11 +23,13 @@ use Rattle.refinement.specs.Table.{Unique}
 use Rattle.refinement.specs.Agree.{Class}
 use Rattle.refinement.specs.Mirror.{isPending, All, Distinct, Listed, Used, all-at}
 use Rattle.refinement.specs.Alike.{Rises}
+use Rattle.promises.specs.States.{stateFits}
+use Rattle.refinement.specs.Sites.{Dated, AllDated, Sited}
 use Rattle.refinement.specs.Stands.{Formed}
 use Rattle.refinement.specs.Rules.{Rules, isShelved, many, rules-formed, formed-rules}
-use Rattle.slot_rules.specs.Tests.{every, tally, among, isTaken, isVacant, vacant-only, slotFits, slotFitsAt, idsBelow, newId, idsDistinct, slotsFit, howMany, countsRight}
+use Rattle.slot_rules.specs.Tests.{every, tally, among, isTaken, isVacant, vacant-only, slotFits, slotFitsAt, idsBelow, newId, idsDistinct, slotsFit, datedAt, slotsDated, howMany, countsRight}
 use Rattle.list_rules.specs.Tests.{blankPast, before, waiterFits, listedAt, orderRight, blankFrom, queueRises}
-use Rattle.rules.specs.Tests.{keepsRules}
+use Rattle.rules.specs.Tests.{hangsTogether, isSettled, keepsRules}
 use Rattle.rules.specs.Every.{every-all, all-every, not-among, new-among, all-of, distinct-of, distinct-has, past, tally-same, kinds, many-tally, taken-tally, rises-of, rises-at}
 
 -- ── Ids ────────────────────────────────────────────────────────────────────────────────────────────────────────────────
@@ -311,11 +313,73 @@ ten a b c d e f g i j k q =
       and-right j k jk,
     )
 
+-- what a reached pool has besides
+record Settles (p : SlotPool) : Type 0 where
+  bounded : p .total ≤ p .options .maximum
+  state : stateFits (p .state) (p .generation) (p .nextId) (p .total) (p .availables) (p .waitings) ≡ true
+  sited : Sited p
+
 module _ (h : Head) (cs ts ss ws : List ℕ) (w : Whole (poolOf h cs ts ss ws)) where
+  abbrev Q : SlotPool
+  Q = poolOf h cs ts ss ws
+
+  abbrev g : ℕ
+  g = h .status .generation
+
+  abbrev t : ℕ
+  t = h .clock
+
+  -- what is tested of the columns is said of the slot
+  dated-at : (j : ℕ) → j < slotCount → View.slotAt Q j ≡ slotIn cs ts ss j
+  dated-at j low = slot-at h cs ts ss ws w j low
+
+  dated-say : slotsDated cs ts g t ≡ true → AllDated Q
+  unfolding slotsDated
+  dated-say f j =
+      by-lt j slotCount
+      (λ low.
+      let of : ℕ = getD cs (slotCount + j) 0 in
+      let since : ℕ = getD ts j 0 in
+      let b = every-all slotCount (datedAt cs ts g t) f j low in
+      subst (Dated g t) (sym (dated-at j low)) (leb-true of g (and-left (of ≤? g) (since ≤? t) b), leb-true since t (and-right (of ≤? g) (since ≤? t) b)))
+      (λ high. subst (Dated g t) (sym (past (Q .slots) vacant j (omega (arith, w .slots)))) (omega arith, omega arith))
+
+  dated-pass : AllDated Q → slotsDated cs ts g t ≡ true
+  unfolding slotsDated
+  dated-pass d = all-every slotCount (datedAt cs ts g t) (λ j low.
+      let k = subst (Dated g t) (dated-at j low) (d j) in both-true (le-leb (getD cs (slotCount + j) 0) g (k .0)) (le-leb (getD ts j 0) t (k .1)))
+
+  abbrev fits : Bool
+  fits = stateFits (Q .state) (Q .generation) (Q .nextId) (Q .total) (Q .availables) (Q .waitings)
+
+  settled-says : isSettled h cs ts ≡ true → Settles Q
+  unfolding isSettled
+  settled-says b =
+      let most = h .options .maximum in
+      let few = h .«total_connection_count» ≤? most in
+      let spare = blankFrom slotCount most (idsIn cs) in
+      let one = and-left (few && fits) (slotsDated cs ts g t && spare) b in
+      let two = and-right (few && fits) (slotsDated cs ts g t && spare) b in
+      record {
+        bounded = leb-true (h .«total_connection_count») most (and-left few fits one);
+        state = and-right few fits one;
+        sited = record {
+          spare = blank-say slotCount most (idsIn cs) (w .ids) (and-right (slotsDated cs ts g t) spare two);
+          dated = dated-say (and-left (slotsDated cs ts g t) spare two);
+        };
+      }
+
+  settled-pass : Q .total ≤ Q .options .maximum → fits ≡ true → Sited Q → isSettled h cs ts ≡ true
+  unfolding isSettled
+  settled-pass b s k =
+      both-true (both-true (le-leb (Q .total) (Q .options .maximum) b) s) (both-true (dated-pass (k .dated)) (blank-pass slotCount (h .options .maximum) (idsIn cs) (k .spare)))
+
   -- what passes the test keeps the rules
   pub sound : h .serial < 4294967296 → keepsRules h cs ts ss ws ≡ true → Rules (poolOf h cs ts ss ws)
-  unfolding keepsRules
-  sound low q =
+  unfolding keepsRules hangsTogether
+  sound low both =
+      let q = and-left (hangsTogether h cs ts ss ws) (isSettled h cs ts) both in
+      let z = settled-says (and-right (hangsTogether h cs ts ss ws) (isSettled h cs ts) both) in
       let next = h .«next_connection_id» in
       let n = h .«available_count» in
       let m = h .«waiting_count» in
@@ -345,16 +409,19 @@ module _ (h : Head) (cs ts ss ws : List ℕ) (w : Whole (poolOf h cs ts ss ws)) 
         rises = queue-say ws m (h .«last_request») (w .waiters) (t .8);
         serial = low;
         numbers = leb-true next (mostNextId) (t .1);
+        bounded = z .bounded;
+        state = z .state;
+        sited = z .sited;
       }
 
   -- what keeps the rules passes the test
   pub complete : Rules (poolOf h cs ts ss ws) → keepsRules h cs ts ss ws ≡ true
-  unfolding keepsRules
+  unfolding keepsRules hangsTogether
   complete r =
       let next = h .«next_connection_id» in
       let n = h .«available_count» in
       let m = h .«waiting_count» in
-      both-true
+      both-true (both-true
       (both-true
       (both-true (limits-pass (h .options) (r .limits)) (le-leb next (mostNextId) (r .numbers)))
       (both-true (below-pass cs (w .ids) next (r .below))
@@ -366,7 +433,8 @@ module _ (h : Head) (cs ts ss ws : List ℕ) (w : Whole (poolOf h cs ts ss ws)) 
       (how-many h cs ts ss ws w (r .blank) isPending refl ∙ sym (r .pending))
       (how-many h cs ts ss ws w (r .blank) isShelved refl ∙ sym (r .shelved)))
       (both-true (order-pass h cs ts ss ws w (r .fits) (r .listed) (r .distinct)) (blank-pass slotCount n (orderIn ss) (r .rest))))
-      (both-true (queue-pass ws m (h .«last_request») (w .waiters) (r .queue) (r .rises)) (blank-pass queueLength m ws (r .queueRest))))
+      (both-true (queue-pass ws m (h .«last_request») (w .waiters) (r .queue) (r .rises)) (blank-pass queueLength m ws (r .queueRest)))))
+      (settled-pass (r .bounded) (r .state) (r .sited))
 
 -- ── What the test says ─────────────────────────────────────────────────────────────────────────────────────────────────
 

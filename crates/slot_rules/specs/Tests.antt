@@ -55,6 +55,9 @@ slotFits id s = if id =? 0 then isVacant s else 1 ≤? s .state && s .state ≤?
 abbrev pub slotFitsAt : (numbers times states : List ℕ) → ℕ → Bool
 slotFitsAt numbers times states i = slotFits (getD numbers i 0) (slotIn numbers times states i)
 
+abbrev pub isDated : (generation time of since : ℕ) → Bool
+isDated generation time of since = of ≤? generation && since ≤? time
+
 -- ── The rules ──────────────────────────────────────────────────────────────────────────────────────────────────────────
 
 unfoldable pub idsBelow : List ℕ → ℕ → Bool
@@ -69,6 +72,12 @@ idsDistinct numbers = every slotCount (newId numbers)
 
 unfoldable pub slotsFit : List ℕ → List ℕ → List ℕ → Bool
 slotsFit numbers times states = every slotCount (slotFitsAt numbers times states)
+
+abbrev pub datedAt : (numbers times : List ℕ) → (generation time : ℕ) → ℕ → Bool
+datedAt numbers times generation time i = isDated generation time (getD numbers (slotCount + i) 0) (getD times i 0)
+
+unfoldable pub slotsDated : (numbers times : List ℕ) → (generation time : ℕ) → Bool
+slotsDated numbers times generation time = every slotCount (datedAt numbers times generation time)
 
 abbrev pub howMany : Class → List ℕ → ℕ
 howMany t states = tally slotCount (λ i. t (getD states i 0))

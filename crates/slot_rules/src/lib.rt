@@ -7,7 +7,7 @@ ghost use Rattle.definition.specs.Words.{_=?_, _<?_};
 ghost use Rattle.slots.specs.View.{slot};
 ghost use Rattle.refinement.specs.Mirror.{isPending};
 ghost use Rattle.refinement.specs.Rules.{isShelved, oneIf};
-ghost use Rattle.slot_rules.specs.Tests.{among, isTaken, slotFits, idsBelow, idsDistinct, slotsFit, countsRight};
+ghost use Rattle.slot_rules.specs.Tests.{among, isTaken, slotFits, isDated, idsBelow, idsDistinct, slotsFit, slotsDated, countsRight};
 use definition::SLOTS;
 use slots::GENERATIONS;
 use slots::Numbers;
@@ -59,6 +59,13 @@ fn slot_fits(id: u32, generation: u32, time: u64, state: u8) -> bool
         return both(state == 0, both(generation == 0, time == 0));
     }
     both(1 <= state, state <= 6)
+}
+
+// Of no later generation, and no later time.
+fn is_dated(generation: u32, time: u64, of: u32, since: u64) -> bool
+    ensures { λ r. ⌜ r ≡ isDated generation time of since ⌝ }
+{
+    both(of <= generation, since <= time)
 }
 
 // ── the rules ──
@@ -138,6 +145,22 @@ pub fn slots_fit(numbers: &Numbers, times: &Times, states: &States) -> bool
         ok = both(
             ok,
             slot_fits(numbers[i], numbers[GENERATIONS + i], times[i], states[i]),
+        );
+        i += 1;
+    }
+    ok
+}
+
+// No slot is of a later generation than the pool, or of a later time. A vacant one is of 0.
+pub fn slots_dated(numbers: &Numbers, times: &Times, generation: u32, time: u64) -> bool
+    ensures { λ r. ⌜ r ≡ slotsDated (now (numbers .entry)) (now (times .entry)) generation time ⌝ }
+{
+    let mut ok = true;
+    let mut i: usize = 0;
+    while i < SLOTS {
+        ok = both(
+            ok,
+            is_dated(generation, time, numbers[GENERATIONS + i], times[i]),
         );
         i += 1;
     }

@@ -8,7 +8,7 @@ use Rattle.definition.specs.Words.{if_then_else_, _<?_, _≤?_, _=?_}
 use Rattle.definition.specs.Pool.{slotCount, isClosed, queueLength}
 use Rattle.definition.specs.Steps.{Out, kindNo, _to_holds_}
 use Rattle.definition.specs.Bytes.{serialOf}
-use Rattle.definition.specs.Refusals.{Test, _if_, first, takenAfterClose, enoughRoom, lastNextId, lastGeneration, wrongTime}
+use Rattle.definition.specs.Refusals.{Test, _if_, first, causeless, takenAfterClose, enoughRoom, lastNextId, lastGeneration, wrongTime}
 use Rattle.definition.specs.declared.Event.{Event}
 use Rattle.definition.specs.declared.Event.the-variants.{CheckOut, WarmPool, Abandon, CheckIn, Clear, MarkAsReady, Succeeded, SucceededForPool, Failed, Maintenance, FillPool, Pin, ReturnToPinner, TakeFromPinner, Close}
 use Rattle.definition.specs.declared.Frame.{Frame}
@@ -88,6 +88,7 @@ numbersSpent p e =
 
 unfoldable pub tests : SlotPool → Event → ℕ → List Test
 tests p e now =
+    (Malformed if causeless e) ∷
     (ClockBack if now <? p .clock) ∷
     (AfterClose if isClosed (p .state) && not (takenAfterClose e)) ∷
     (NumbersSpent if numbersSpent p e) ∷

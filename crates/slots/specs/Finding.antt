@@ -63,3 +63,18 @@ vacant-freed ids e i low =
     let freed = getD-set-same ids i 0 0 (omega (arith, e)) in
     elim (eq-or-lt-of-le (place-most (λ v. v) 0 slotCount (set ids i 0)))
     [ inl q ↦ absurd (place-before (λ v. v) 0 slotCount (set ids i 0) i (omega (arith, q)) freed) | inr q ↦ q ]
+
+-- the slot found free lies below a bound that fewer slots than it are taken
+place-low : (n : ℕ) (l : List ℕ) → place 0 n l ≤ taken l
+unfolding taken placeBy if_then_else_
+place-low zero l = omega arith
+place-low (suc n) [] = omega arith
+place-low (suc n) (x ∷ l) = go (x =? 0) (place-low n l)
+  where
+    go : (b : Bool) → place 0 n l ≤ taken l → (if b then 0 else suc (place 0 n l)) ≤ (if b then 0 else 1) + taken l
+    go true h = omega arith
+    go false h = omega arith
+
+pub vacant-below : (ids : List ℕ) (m : ℕ) → taken ids < m → vacantSlot ids < m
+unfolding vacantSlot
+vacant-below ids m h = omega (arith, place-low slotCount ids)

@@ -53,13 +53,13 @@ module _ (p : SlotPool) (e : Event) (now : ℕ) (m : Status) (s : m .state ≡ p
   unfolding commonVerdict verdict tests
   verdict-by {r} h =
       let k = rw (s, g) at (common-refused (first (commonTests (p .clock) (p .nextId) m now e)) r (sym c ∙ h)) in
-      sym (ap (orAccept (target p e)) (first-by _ _ _ (kindTests p e now) r k))
+      sym (ap (orAccept (target p e)) (first-by _ _ _ _ (kindTests p e now) r k))
 
   pub verdict-open : {v : Verdict} → o ≡ Pass → v ≡ kindVerdict p e now → v ≡ verdict p e now
   unfolding commonVerdict kindVerdict verdict tests
   verdict-open h d =
       let k = rw (s, g) at (common-passed (first (commonTests (p .clock) (p .nextId) m now e)) (sym c ∙ h)) in
-      d ∙ sym (ap (orAccept (target p e)) (first-of _ _ _ (kindTests p e now) k))
+      d ∙ sym (ap (orAccept (target p e)) (first-of _ _ _ _ (kindTests p e now) k))
 
 -- ── A waiter ───────────────────────────────────────────────────────────────────────────────────────────────────────────
 

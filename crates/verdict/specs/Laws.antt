@@ -38,16 +38,18 @@ not-pinned s a b = go (3 ≤? s) refl (s ≤? 4) refl
     go false p y q = refl
 
 -- tests in two groups: the first of the first group, or else of the second
-pub first-of : (a b c : Test) (ts : List Test) → (first (a ∷ b ∷ c ∷ []) ≡ none → first (a ∷ b ∷ c ∷ ts) ≡ first ts)
+pub first-of : (a b c d : Test) (ts : List Test) → (first (a ∷ b ∷ c ∷ d ∷ []) ≡ none → first (a ∷ b ∷ c ∷ d ∷ ts) ≡ first ts)
 unfolding first if_then_else_
-first-of (x if true) b c ts h = let z : _≡_ {A = ℕ} 0 1 = cc in absurd (omega arith)
-first-of (x if false) (y if true) c ts h = let z : _≡_ {A = ℕ} 0 1 = cc in absurd (omega arith)
-first-of (x if false) (y if false) (w if true) ts h = let z : _≡_ {A = ℕ} 0 1 = cc in absurd (omega arith)
-first-of (x if false) (y if false) (w if false) ts h = refl
+first-of (x if true) b c d ts h = let z : _≡_ {A = ℕ} 0 1 = cc in absurd (omega arith)
+first-of (x if false) (y if true) c d ts h = let z : _≡_ {A = ℕ} 0 1 = cc in absurd (omega arith)
+first-of (x if false) (y if false) (w if true) d ts h = let z : _≡_ {A = ℕ} 0 1 = cc in absurd (omega arith)
+first-of (x if false) (y if false) (w if false) (v if true) ts h = let z : _≡_ {A = ℕ} 0 1 = cc in absurd (omega arith)
+first-of (x if false) (y if false) (w if false) (v if false) ts h = refl
 
-pub first-by : (a b c : Test) (ts : List Test) (r : Refusal) → (first (a ∷ b ∷ c ∷ []) ≡ some r → first (a ∷ b ∷ c ∷ ts) ≡ some r)
+pub first-by : (a b c d : Test) (ts : List Test) (r : Refusal) → (first (a ∷ b ∷ c ∷ d ∷ []) ≡ some r → first (a ∷ b ∷ c ∷ d ∷ ts) ≡ some r)
 unfolding first if_then_else_
-first-by (x if true) b c ts r h = h
-first-by (x if false) (y if true) c ts r h = h
-first-by (x if false) (y if false) (w if true) ts r h = h
-first-by (x if false) (y if false) (w if false) ts r h = let z : _≡_ {A = ℕ} 0 1 = cc in absurd (omega arith)
+first-by (x if true) b c d ts r h = h
+first-by (x if false) (y if true) c d ts r h = h
+first-by (x if false) (y if false) (w if true) d ts r h = h
+first-by (x if false) (y if false) (w if false) (v if true) ts r h = h
+first-by (x if false) (y if false) (w if false) (v if false) ts r h = let z : _≡_ {A = ℕ} 0 1 = cc in absurd (omega arith)

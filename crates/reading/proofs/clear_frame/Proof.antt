@@ -1,12 +1,8 @@
-use borrow.Author.Tests.{eq-eqb, ne-eqb}
+use borrow.Author.Tests.{ne-eqb}
 use Rattle.definition.specs.Words.{if_then_else_}
 use borrow.Author.Needs.{needs}
 use Rattle.reading.proofs.clear_frame.Statement.{statement}
 use Rattle.reading.proofs.clear_frame.Tie as tie
-
-returns : tie.Need-returns
-unfolding if_then_else_
-returns c = simp (eq-eqb _ _ (c .if1 .taken))
 
 plain-frame-requires : tie.Need-plain-frame-requires
 plain-frame-requires c κs = search needs
@@ -14,19 +10,18 @@ plain-frame-requires c κs = search needs
 plain-frame-requires-2 : tie.Need-plain-frame-requires-2
 plain-frame-requires-2 c κs = search needs
 
+returns : tie.Need-returns
+unfolding if_then_else_
+returns c = rw (c .before .match .keys1) (c .plain-frame .ensures)
+
 returns-2 : tie.Need-returns-2
 unfolding if_then_else_
-returns-2 c = rw (ne-eqb _ _ (c .before .before .if1 .left), c .before .match .keys1) (c .plain-frame .ensures)
+returns-2 c = rw (c .before .match .keys2) (c .plain-frame2 .ensures)
 
 returns-3 : tie.Need-returns-3
 unfolding if_then_else_
-returns-3 c = rw (ne-eqb _ _ (c .before .before .if1 .left), c .before .match .keys2) (c .plain-frame2 .ensures)
-
-returns-4 : tie.Need-returns-4
-unfolding if_then_else_
-returns-4 c = simp (ne-eqb _ _ (c .before .if1 .left), ne-eqb _ _ (c .match .rest .0 .1), ne-eqb _ _ (c .match .rest .1))
+returns-3 c = simp (ne-eqb _ _ (c .match .rest .0 .1), ne-eqb _ _ (c .match .rest .1))
 
 pub clear-frame-spec : {M : Type 1} → statement M
 clear-frame-spec =
-    tie.close
-    (tie.spec returns plain-frame-requires plain-frame-requires-2 returns-2 returns-3 returns-4)
+    tie.close (tie.spec plain-frame-requires plain-frame-requires-2 returns returns-2 returns-3)

@@ -171,13 +171,13 @@ abbrev busy : Pool
 busy = left (lends busyCalls) (freshPool two)
 
 busy-ran : Ran (lends busyCalls) (freshPool two) (fresh two)
-busy-ran = entries-run (lends busyCalls) (freshPool two) (fresh two) (fresh-stands two two-in-range) (omega arith)
+busy-ran = entries-run (lends busyCalls) (freshPool two) (fresh two) (fresh-stands two two-in-range) (fresh-formed two two-in-range)
 
 busy-stands : Stands (viewOf busy) busyLists
 busy-stands = subst (λ (cs : List R.Call). Stands (viewOf busy) (run cs (fresh two) .pool)) (lends-called busyCalls) (busy-ran .pool)
 
 busy-filled : Done busy room (entry busy fill room) (outcome (Good FillPool 1) busyLists)
-busy-filled = entry-meant busy busyLists busy-stands (busy-ran .formed .numbers) fill room .accepts _
+busy-filled = entry-meant busy busyLists busy-stands (busy-ran .formed) fill room .accepts _
     (ap (λ (f : Frame). R.step busyLists f (length room)) fill-frame ∙ ap (R.step busyLists (Good FillPool 1)) room-long ∙ busy-lists .fills)
 
 -- ── A fill takes one waiter at most ────────────────────────────────────────────────────────────────────────────────────

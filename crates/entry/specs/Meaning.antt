@@ -50,7 +50,7 @@ use Rattle.pool.specs.declared.Counts.{Counts}
 abbrev pub shortOrBad : List ℕ → Refusal
 shortOrBad l = if length l <? enoughRoom then OutputShort else Malformed
 
-unkept : (p : Pool) (b l : List ℕ) → keeps p ≡ false → entry p b l ≡ entered p l (Refused (shortOrBad l))
+pub unkept : (p : Pool) (b l : List ℕ) → keeps p ≡ false → entry p b l ≡ entered p l (Refused (shortOrBad l))
 unfolding entry if_then_else_
 unkept p b l k = by-bool (length l <? enoughRoom) (λ h. rw h) (λ h. rw (h, k))
 
@@ -116,6 +116,13 @@ entry-meant p m st f b l =
           };
     }
 
+-- and the pool that is left stands for the one that the definition leaves
+pub entry-stands : (p : Pool) (m : D.Pool) → Stands (viewOf p) m → Formed (viewOf p) → (b l : List ℕ)
+    → Stands (viewOf (entry p b l .pool)) (after m (R.step m (frameOf b) (length l)) .pool)
+entry-stands p m st f b l =
+    let r = R.step m (frameOf b) (length l) in
+    subst (λ (v : SlotPool). Stands v (after m r .pool)) (sym (entry-view p f b l)) (refines-stands r st (call-refines (viewOf p) m st (frameOf b) l))
+
 -- where the rules hold, on the lists that the pool stands for
 pub rules-meant : (p : Pool) → Rules (viewOf p) → (b l : List ℕ) → Meant p l (entry p b l) (R.step (listsOf (viewOf p)) (frameOf b) (length l))
 rules-meant p r b l = entry-meant p (listsOf (viewOf p)) (rules-stand (viewOf p) r) (rules-formed (viewOf p) r) b l
@@ -165,12 +172,8 @@ answered : (cs : List Lend) (p : Pool) (m : D.Pool) → Stands (viewOf p) m → 
 unfolding Answered
 answered [] p m st f = tt
 answered (c ∷ cs) p m st f =
-    let q = entry p (c .bytes) (c .out) .pool in
-    let r = R.step m (frameOf (c .bytes)) (length (c .out)) in
-    let s : Stands (viewOf q) (after m r .pool) =
-    subst (λ (v : SlotPool). Stands v (after m r .pool)) (sym (entry-view p f (c .bytes) (c .out)))
-    (refines-stands r st (call-refines (viewOf p) m st (frameOf (c .bytes)) (c .out))) in
-    (entry-meant p m st f (c .bytes) (c .out), answered cs q (after m r .pool) s (entry-formed p f (c .bytes) (c .out)))
+    (entry-meant p m st f (c .bytes) (c .out),
+    answered cs (entry p (c .bytes) (c .out) .pool) _ (entry-stands p m st f (c .bytes) (c .out)) (entry-formed p f (c .bytes) (c .out)))
 
 left-view : (cs : List Lend) (p : Pool) → Formed (viewOf p) → ran (map read cs) (viewOf p) ≡ viewOf (left cs p)
 unfolding ran left
@@ -179,7 +182,7 @@ left-view (c ∷ cs) p f =
     ap (ran (map read cs)) (sym (entry-view p f (c .bytes) (c .out)))
     ∙ left-view cs (entry p (c .bytes) (c .out) .pool) (entry-formed p f (c .bytes) (c .out))
 
-left-formed : (cs : List Lend) (p : Pool) → Formed (viewOf p) → Formed (viewOf (left cs p))
+pub left-formed : (cs : List Lend) (p : Pool) → Formed (viewOf p) → Formed (viewOf (left cs p))
 unfolding left
 left-formed [] p f = f
 left-formed (c ∷ cs) p f = left-formed cs (entry p (c .bytes) (c .out) .pool) (entry-formed p f (c .bytes) (c .out))

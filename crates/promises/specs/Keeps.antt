@@ -118,7 +118,7 @@ unfolding run _>>_
 run-options [] p = refl
 run-options (c ∷ cs) p = run-options cs (next p c) ∙ step-options p (c .frame) (c .room) _ (stepped p (c .frame) (c .room))
 
-step-written : (p : Pool) (f : Frame) (room : ℕ) (r : Result) → Stepped p f room r
+pub step-written : (p : Pool) (f : Frame) (room : ℕ) (r : Result) → Stepped p f room r
     → after p r .pool .written ≡ p .written + length (after p r .records)
 step-written p f room r (no-step n) = omega arith
 step-written p f room r (a-step {e = e} {now = now} h) = omega (arith, event-keeps e (withClock p now) .written-stays)

@@ -6,7 +6,7 @@ use mathlib.Core.Logic.{_≢_}
 use mathlib.Core.Option.{Option, none, some}
 use Prim.Native.Nat.{ℕ, _+_, _≤_, _<_}
 use native.Mathlib.Omega.{arith}
-use lib.ListN.{length, getD}
+use lib.ListN.{length, getD, take}
 use borrow.Author.Tests.{eq-eqb, ne-eqb}
 use Rattle.definition.specs.Booleans.{by-bool, by-eq}
 use Rattle.definition.specs.Words.{if_then_else_, _=?_}
@@ -124,5 +124,5 @@ module _ {xs : List ℕ} {ss : List Slot} {o : List ℕ} {next : ℕ} {av le pe 
 pub one-place : {p : SlotPool} {m : Pool} → Stands p m → (i : ℕ) → standing i m ≤ 1
 one-place {p} {m} st i =
     let k = st .table .mirror in
-    let h : often i (numbers (view (p .ids) (p .slots) _)) + often i (numbers (m .lent)) + often i (numbers (m .pending)) ≤ 1 = placed k i (look i (p .ids) (p .slots)) refl in
+    let h : often i (numbers (view (p .ids) (p .slots) (take (p .availables) (p .available)))) + often i (numbers (m .lent)) + often i (numbers (m .pending)) ≤ 1 = placed k i (look i (p .ids) (p .slots)) refl in
     subst (λ (l : List Conn). often i (numbers l) + often i (numbers (m .lent)) + often i (numbers (m .pending)) ≤ 1) (k .available) h

@@ -1,0 +1,4 @@
+pub mod Demands
+pub mod Calls
+pub mod Days
+pub mod Proved

@@ -1,7 +1,9 @@
 // A pool value with one number put into it, whatever rule that breaks. What is damaged has a number: 0 to 2 the options' maximum,
 // minimum and connecting, 3 to 6 the counts of all, pending, available and waiting, 7 the next id, 8 the last request, 9 the serial,
-// 10 the generation; 11 to 14 a slot's id, generation, time and state, 15 a place of the available list, 16 one of the queue.
+// 10 the generation; 11 to 14 a slot's id, generation, time and state, 15 a place of the available list, 16 one of the queue, 17 the
+// clock; 18 makes the pool New, 19 Paused for that cause, 20 Ready, 21 Closed.
 use definition::Options;
+use definition::PoolState;
 use definition::QUEUE;
 use definition::SLOTS;
 use pool::Pool;
@@ -47,6 +49,32 @@ fn numbers(h: Head, what: u8, x: u32) -> Head {
     g
 }
 
+fn state(what: u8, cause: u32) -> PoolState {
+    match what {
+        18 => PoolState::New,
+        19 => PoolState::Paused(cause),
+        20 => PoolState::Ready,
+        _ => PoolState::Closed,
+    }
+}
+
+// The clock, or the state.
+fn turned(h: Head, what: u8, x: u64) -> Head {
+    let mut g = h;
+    if what == 17 {
+        g.clock = x;
+        return g;
+    }
+    let s = h.status;
+    let t = state(what, (x % 4294967296) as u32);
+    let u = Status {
+        state: t,
+        generation: s.generation,
+    };
+    g.status = u;
+    g
+}
+
 fn slot(s: Slot, what: u8, x: u64) -> Slot {
     let mut t = s;
     let v = (x % 4294967296) as u32;
@@ -73,6 +101,11 @@ pub fn damaged(p: Pool, what: u8, i: usize, x: u64) -> Pool {
     if what < 11 {
         let h = p.head;
         q.head = numbers(h, what, (x % 4294967296) as u32);
+        return q;
+    }
+    if 16 < what {
+        let h = p.head;
+        q.head = turned(h, what, x);
         return q;
     }
     if what == 16 {

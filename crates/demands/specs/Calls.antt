@@ -121,8 +121,8 @@ broken p b l k = record {
 pub demand-1 : Demand1
 demand-1 p t b l = by-bool (keeps p)
     (λ k.
-        let r = keeps-exact p t .sound k in
-        judged p (rules-formed (viewOf p) r) (listsOf (viewOf p)) (rules-stand (viewOf p) r) b l _ (rules-meant p r b l))
+    let r = keeps-exact p t .sound k in
+    judged p (rules-formed (viewOf p) r) (listsOf (viewOf p)) (rules-stand (viewOf p) r) b l _ (rules-meant p r b l))
     (λ k. inl (refuses p l (shortOrBad l) (entry p b l) (unkept p b l k)))
 
 pub demand-2 : Demand2
@@ -134,7 +134,7 @@ demand-2 p t b l = record {
 
 -- ── All that calls lay down ────────────────────────────────────────────────────────────────────────────────────────────
 
-numbered-append : (w : ℕ) (xs ys : List Record) → numbered w (xs ++ ys) ≡ numbered w xs ++ numbered (w + length xs) ys
+pub numbered-append : (w : ℕ) (xs ys : List Record) → numbered w (xs ++ ys) ≡ numbered w xs ++ numbered (w + length xs) ys
 unfolding numbered
 numbered-append w [] ys = let z : w + 0 ≡ w = omega arith in rw z
 numbered-append w (x ∷ xs) ys =

@@ -171,9 +171,10 @@ pub record Ran (cs : List Lend) (p : Pool) (m : D.Pool) : Type 0 where
 answered : (cs : List Lend) (p : Pool) (m : D.Pool) → Stands (viewOf p) m → Formed (viewOf p) → Answered cs p m
 unfolding Answered
 answered [] p m st f = tt
-answered (c ∷ cs) p m st f =
-    (entry-meant p m st f (c .bytes) (c .out),
-    answered cs (entry p (c .bytes) (c .out) .pool) _ (entry-stands p m st f (c .bytes) (c .out)) (entry-formed p f (c .bytes) (c .out)))
+answered (c ∷ cs) p m st f = (
+  entry-meant p m st f (c .bytes) (c .out),
+  answered cs (entry p (c .bytes) (c .out) .pool) _ (entry-stands p m st f (c .bytes) (c .out)) (entry-formed p f (c .bytes) (c .out)),
+)
 
 left-view : (cs : List Lend) (p : Pool) → Formed (viewOf p) → ran (map read cs) (viewOf p) ≡ viewOf (left cs p)
 unfolding ran left

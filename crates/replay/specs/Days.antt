@@ -1,7 +1,7 @@
 -- A whole day in one call: its log, where the output has room for it.
 use mathlib.Core.Path.{_≡_, refl, sym, ap, subst, _∙_}
 use mathlib.Core.Bool.{Bool, true, false, false≢true, _&&_}
-use mathlib.Core.List.{List, [], _∷_, _++_, append-nil}
+use mathlib.Core.List.{List, [], _∷_, _++_, append-nil, append-assoc}
 use Prim.Native.Nat.{ℕ, _+_, _-_, _≤_}
 use native.Mathlib.Omega.{arith}
 use borrow.Author.Tests.{eq-eqb, eqb-true, le-leb}
@@ -47,6 +47,11 @@ pub record Logged (t : Underway) (before after : List ℕ) (d : Day) : Type 0 wh
 pub opening-writes : (budget : ℕ) (text : List ℕ) → Writes (ended onSlots (feed onSlots (opening budget) text)) budget text
 opening-writes budget text = feed-writes budget (freshSlots noOptions) (replicate enoughRoom 0) text (simp length-replicate (omega arith))
 
+-- one text is a beginning of another
+pub record Prefix (a b : List ℕ) : Type 0 where
+  pub rest : List ℕ
+  pub same : a ++ rest ≡ b
+
 all-read : (k : Fed Play ℕ) → k .rest ≡ [] → ended onSlots (andThen onSlots k (k .rest)) ≡ ended onSlots k
 all-read k e =
     ap (λ (x : List ℕ). ended onSlots (andThen onSlots k x)) e ∙ ap (λ (f : Fed Play ℕ). ended onSlots (joined (k .out) f)) (feed-nil onSlots (k .view))
@@ -75,16 +80,29 @@ module _ (room budget : ℕ) (text : List ℕ) where
   unfolding dayIn
   day-whole h = told-whole (all? room got) refl h
 
-  -- what is written is no longer than the log
-  written-less : length (got .out) ≤ length (logOf budget text)
-  written-less =
+  -- what is written, with what is still to come, is the log
+  abbrev still : List ℕ
+  still = feed onSlots (got .view) (got .rest) .out ++ finish onSlots (feed onSlots (got .view) (got .rest) .view .state) (feed onSlots (got .view) (got .rest) .view .held) .out
+
+  written-then : got .out ++ still ≡ logOf budget text
+  written-then =
       let f = feed onSlots (got .view) (got .rest) in
       let t = finish onSlots (f .view .state) (f .view .held) in
-      let e : (got .out ++ f .out) ++ t .out ≡ logOf budget text =
-      ap (λ (k : Fed Play ℕ). ended onSlots k .out) (sym (some-reads onSlots room (opening budget) text)) ∙ opening-writes budget text .log in
-      let n : length ((got .out ++ f .out) ++ t .out) ≡ length (got .out ++ f .out) + length (t .out) = length-append (got .out ++ f .out) (t .out) in
-      let m : length (got .out ++ f .out) ≡ length (got .out) + length (f .out) = length-append (got .out) (f .out) in
-      omega (arith, ap length e, n, m)
+      sym (append-assoc (got .out) (f .out) (t .out))
+      ∙ ap (λ (k : Fed Play ℕ). ended onSlots k .out) (sym (some-reads onSlots room (opening budget) text)) ∙ opening-writes budget text .log
+
+  written-less : length (got .out) ≤ length (logOf budget text)
+  written-less = omega (arith, ap length written-then, length-append (got .out) still)
+
+  told-begins : (b : Bool) → all? room got ≡ b → Prefix (toldOf b got .took .out) (logOf budget text)
+  unfolding if_then_else_
+  told-begins true e = record { rest = []; same = append-nil _ ∙ told-whole true e refl .log }
+  told-begins false e = record { rest = still; same = written-then }
+
+  -- with too little room, too, what is written is a beginning of the log
+  pub day-begins : Prefix (dayIn room budget text .took .out) (logOf budget text)
+  unfolding dayIn
+  day-begins = told-begins (all? room got) refl
 
   all-true : (b : Bool) → all? room got ≡ b → b ≡ true → toldOf b got .whole ≡ true
   unfolding if_then_else_

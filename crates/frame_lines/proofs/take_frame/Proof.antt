@@ -1,3 +1,4 @@
+use native.Mathlib.Omega.{arith}
 use mathlib.Core.List.{List}
 use Prim.Native.Nat.{ℕ}
 use denote.Ref.{now}
@@ -50,7 +51,7 @@ say-requires c κs =
     let s : tie.Start = start d in
     let fits =
     call-fits (pool d) (left d) (now (s .args .scratch)) (records d) (read d .line-frame .result) (d .call .result .outcome) (d .call .ensures) (s .pre .1) in
-    (fits, search needs, search needs)
+    (fits, omega (arith, s .pre .2, d .call .kept .1 .1 .1 .1 .1 .0), search needs)
 
 same-length : tie.Need-same-length
 same-length c = search needs

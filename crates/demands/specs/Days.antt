@@ -1,0 +1,195 @@
+-- The third demand of any text of a day: its lines are calls, its log's records are the run's, and the machine's last pool is the run's.
+use mathlib.Core.Path.{_≡_, refl, sym, ap, subst, _∙_}
+use mathlib.Core.Bool.{Bool, true, false}
+use mathlib.Core.List.{List, [], _∷_, _++_, map}
+use mathlib.Core.Logic.{_⊎_, inl, inr}
+use mathlib.Core.Option.{Option, none, some}
+use Prim.Native.Nat.{ℕ, suc, _+_, _-_, _≤_, _<_, min}
+use native.Mathlib.Omega.{arith}
+use lib.ListN.{length, take, replicate, length-replicate}
+use lib.Seq.{take-nil}
+use borrow.Author.Tests.{ltb-true, ltb-false}
+use Rattle.definition.specs.Booleans.{by-bool}
+use Rattle.definition.specs.Words.{if_then_else_, _<?_}
+use Rattle.definition.specs.Pool as D
+use Rattle.definition.specs.Pool.{fresh, withDefaults, inRange}
+use Rattle.definition.specs.Records.{Record}
+use Rattle.definition.specs.Steps.{Out, _>>_}
+use Rattle.definition.specs.Refusals as R
+use Rattle.definition.specs.Refusals.{step, after, run, enoughRoom, make}
+use Rattle.definition.specs.Bytes.{frameOfLine, optionsOfLine}
+use Rattle.definition.specs.Day as Day
+use Rattle.definition.specs.Day.{Entry, Said, RefusedLine, entriesOf, frames, linesOf, numbered, textOf, framesUsed, day}
+use Rattle.definition.specs.declared.Options.{Options}
+use Rattle.definition.specs.declared.Refusal.{Refusal}
+use Rattle.definition.specs.declared.Refusal.the-variants.{Malformed, OptionsOutOfRange}
+use Rattle.promises.specs.Keeps.{step-written}
+use Rattle.promises.specs.Calls.{stepped}
+use Rattle.slots.specs.View.{SlotPool}
+use Rattle.refinement.specs.Alike.{freshSlots}
+use Rattle.refinement.specs.Stands.{Stands}
+use Rattle.first_line.specs.declared.Phase.{Phase}
+use Rattle.first_line.specs.declared.Phase.the-variants as phase
+use Rattle.first_line.specs.Took.{Took, quiet, lineRoom}
+use Rattle.first_line.specs.OnSlots.{Play}
+use Rattle.lines.specs.OnSlots.{onSlots}
+use Rattle.runs.specs.Code.{noOptions}
+use Rattle.session.specs.Code.{opening, begun}
+use Rattle.replay.specs.Calls.{feed, ended}
+use Rattle.replay.specs.Whole.{lines, text-lines, slots-tame}
+use Rattle.replay.specs.Lists.{Lists, Stage, First, Going, Ended, onLists, start, answered}
+use Rattle.replay.specs.Meaning.{Plays, Tied, Says, lines-say}
+use Rattle.replay.specs.Days.{day-whole, day-room}
+use Rattle.demands.specs.Demands.{Kept, lineCalls, saidIn, lastPool, Replayed, Runs, EndsAtOnce, Demand3ForDay, Demand3Days}
+use Rattle.demands.specs.Calls.{kept, numbered-append}
+
+-- ── The log's records are the run's ────────────────────────────────────────────────────────────────────────────────────
+
+said-append : (xs ys : List Entry) → saidIn (xs ++ ys) ≡ saidIn xs ++ saidIn ys
+said-append [] ys = refl
+said-append (Said w r ∷ xs) ys = ap (λ (es : List Entry). Said w r ∷ es) (said-append xs ys)
+said-append (RefusedLine r line ∷ xs) ys = said-append xs ys
+
+said-all : (w : ℕ) (rs : List Record) → saidIn (numbered w rs) ≡ numbered w rs
+unfolding numbered
+said-all w [] = refl
+said-all w (r ∷ rs) = ap (λ (es : List Entry). Said w r ∷ es) (said-all (w + 1) rs)
+
+said-one : (p : D.Pool) (line : ℕ) (r : R.Result) → saidIn (entriesOf p line r) ≡ numbered (p .written) (after p r .records)
+unfolding numbered
+said-one p line (R.Refused x) = refl
+said-one p line (R.Accepted o) = said-all (p .written) (o .records)
+
+frames-said : (ls : List (List ℕ)) (p : D.Pool) (line : ℕ) → saidIn (frames p line ls) ≡ numbered (p .written) (run (lineCalls ls) p .records)
+unfolding frames run _>>_ numbered
+frames-said [] p line = refl
+frames-said (l ∷ ls) p line =
+    let r = step p (frameOfLine l) enoughRoom in
+    let n : after p r .pool .written ≡ p .written + length (after p r .records) = step-written p (frameOfLine l) enoughRoom r (stepped p (frameOfLine l) enoughRoom) in
+    said-append (entriesOf p line r) (frames (after p r .pool) (line + 1) ls)
+    ∙ ap (λ (es : List Entry). es ++ saidIn (frames (after p r .pool) (line + 1) ls)) (said-one p line r)
+    ∙ ap (λ (es : List Entry). numbered (p .written) (after p r .records) ++ es)
+    (frames-said ls (after p r .pool) (line + 1) ∙ ap (λ (k : ℕ). numbered k (run (lineCalls ls) (after p r .pool) .records)) n)
+    ∙ sym (numbered-append (p .written) (after p r .records) (run (lineCalls ls) (after p r .pool) .records))
+
+-- ── The last pool is the run's ─────────────────────────────────────────────────────────────────────────────────────────
+
+abbrev goingAt : D.Pool → ℕ → ℕ → Lists
+goingAt p used budget = record { stage = Going p; used = used; budget = budget }
+
+abbrev LeavesRun : (ls : List (List ℕ)) → D.Pool → (used budget : ℕ) → Stage → Type 0
+LeavesRun ls p used budget s = s ≡ Going (run (lineCalls (take (budget - used) ls)) p .pool)
+
+-- no line more is taken, and none changes the pool
+spent-leaves : (ls : List (List ℕ)) (p : D.Pool) (used budget : ℕ) → budget ≤ used → LeavesRun ls p used budget (Going p)
+unfolding run
+spent-leaves ls p used budget h = let z : budget - used ≡ 0 = omega arith in rw z
+
+none-leaves : (p : D.Pool) (used budget : ℕ) → LeavesRun [] p used budget (Going p)
+unfolding run
+none-leaves p used budget = rw (take-nil (budget - used))
+
+one-leaves : (l : List ℕ) (ls : List (List ℕ)) (p : D.Pool) (used budget : ℕ) (s : Stage) → used < budget
+    → LeavesRun ls (after p (step p (frameOfLine l) enoughRoom) .pool) (used + 1) budget s → LeavesRun (l ∷ ls) p used budget s
+unfolding run _>>_
+one-leaves l ls p used budget s h e = let z : budget - used ≡ suc (budget - (used + 1)) = omega arith in e ∙ rw z
+
+going-leaves : (ls : List (List ℕ)) (p : D.Pool) (used budget : ℕ) → LeavesRun ls p used budget (lines onLists (goingAt p used budget) ls .state .stage)
+unfolding lines if_then_else_
+going-leaves [] p used budget = none-leaves p used budget
+going-leaves (l ∷ ls) p used budget = go (used <? budget) refl (λ q n. going-leaves ls q n budget)
+  where
+    go : (b : Bool) → (used <? budget) ≡ b → ((q : D.Pool) (n : ℕ) → LeavesRun ls q n budget (lines onLists (goingAt q n budget) ls .state .stage))
+        → LeavesRun (l ∷ ls) p used budget
+        (lines onLists ((if b then answered (goingAt p used budget) p (step p (frameOfLine l) enoughRoom) else quiet (goingAt p used budget)) .state) ls .state .stage)
+    go true e ih = one-leaves l ls p used budget _ (ltb-true used budget e) (ih _ (used + 1))
+    go false e ih = ih p used ∙ sym (spent-leaves ls p used budget (ltb-false used budget e)) ∙ spent-leaves (l ∷ ls) p used budget (ltb-false used budget e)
+
+-- what stands for a pool on lists is under way
+tied-stands : (f : Phase) (p : SlotPool) (s : Stage) (m : D.Pool) → Tied f p s → s ≡ Going m → Stands p m
+tied-stands f p s m t e = go f (subst (Tied f p) e t)
+  where
+    go : (f : Phase) → Tied f p (Going m) → Stands p m
+    go phase.First t = absurd t
+    go phase.Going t = t
+    go phase.Ended t = absurd t
+
+module _ (budget : ℕ) (text : List ℕ) where
+  -- the machine on slots, at the text's end, plays what the one on lists does
+  ends : Says (lines onSlots (begun budget (freshSlots noOptions) (replicate enoughRoom 0)) (linesOf text)) (lines onLists (start budget) (linesOf text))
+  ends = lines-say (begun budget (freshSlots noOptions) (replicate enoughRoom 0)) (start budget) (linesOf text)
+      (record { used = refl; budget = refl; stage = tt; room = simp length-replicate (omega arith) })
+
+  last-lines : lastPool budget text ≡ lines onSlots (begun budget (freshSlots noOptions) (replicate enoughRoom 0)) (linesOf text) .state .pool
+  last-lines = ap (λ (k : Took Play ℕ). k .state .pool) (text-lines onSlots slots-tame (begun budget (freshSlots noOptions) (replicate enoughRoom 0)) text)
+
+  last-stands : (m : D.Pool) → lines onLists (start budget) (linesOf text) .state .stage ≡ Going m → Stands (lastPool budget text) m
+  last-stands m e =
+      let s = lines onSlots (begun budget (freshSlots noOptions) (replicate enoughRoom 0)) (linesOf text) .state in
+      subst (λ (q : SlotPool). Stands q m) (sym last-lines) (tied-stands (s .phase) (s .pool) _ m (ends .plays .stage) e)
+
+  -- ── A text, by its first line ──────────────────────────────────────────────────────────────────────────────────────────
+
+  pub replayed : Replayed budget text
+  replayed room h = let w = day-room room budget text h in let k = day-whole room budget text w in (w, k .log, k .used)
+
+  module _ (first : List ℕ) (rest : List (List ℕ)) (a : linesOf text ≡ first ∷ rest) (asked : Options) (b : optionsOfLine first ≡ some asked) where
+    module _ (c : inRange (withDefaults asked) ≡ true) where
+      abbrev o : Options
+      o = withDefaults asked
+
+      makes : make asked ≡ R.Made (fresh o)
+      unfolding make if_then_else_
+      makes = rw c
+
+      day-is : day budget (linesOf text) .log ≡ frames (fresh o) 2 (take budget rest)
+      unfolding day
+      day-is = rw (a, b, makes)
+
+      stage-is : lines onLists (start budget) (linesOf text) .state .stage ≡ Going (run (lineCalls (take budget rest)) (fresh o) .pool)
+      unfolding lines
+      stage-is =
+          let z : budget - 0 ≡ budget = omega arith in
+          rw (a, b, makes) (going-leaves rest (fresh o) 0 budget ∙ rw z)
+
+      runs : Runs budget text
+      unfolding Day.logOf
+      runs = record {
+        asked = asked;
+        first = first;
+        rest = rest;
+        are-lines = a;
+        is-asked = b;
+        in-range = c;
+        log = ap textOf day-is;
+        records = frames-said (take budget rest) (fresh o) 2;
+        kept = kept o c (lineCalls (take budget rest)) (lastPool budget text) (last-stands _ stage-is);
+      }
+
+    module _ (c : inRange (withDefaults asked) ≡ false) where
+      makes-not : make asked ≡ R.NotMade OptionsOutOfRange
+      unfolding make if_then_else_
+      makes-not = rw c
+
+      out-of-range : EndsAtOnce budget text
+      unfolding Day.logOf framesUsed day
+      out-of-range = record { refusal = OptionsOutOfRange; log = rw (a, b, makes-not); none-used = rw (a, b, makes-not) }
+
+  malformed : (first : List ℕ) (rest : List (List ℕ)) → linesOf text ≡ first ∷ rest → optionsOfLine first ≡ none → EndsAtOnce budget text
+  unfolding Day.logOf framesUsed day
+  malformed first rest a b = record { refusal = Malformed; log = rw (a, b); none-used = rw (a, b) }
+
+  no-line : linesOf text ≡ [] → EndsAtOnce budget text
+  unfolding Day.logOf framesUsed day
+  no-line a = record { refusal = Malformed; log = rw a; none-used = rw a }
+
+  by-options : (first : List ℕ) (rest : List (List ℕ)) → linesOf text ≡ first ∷ rest → (x : Option Options) → optionsOfLine first ≡ x → Runs budget text ⊎ EndsAtOnce budget text
+  by-options first rest a none b = inr (malformed first rest a b)
+  by-options first rest a (some asked) b = by-bool (inRange (withDefaults asked)) (λ c. inl (runs first rest a asked b c)) (λ c. inr (out-of-range first rest a asked b c))
+
+  by-lines : (ls : List (List ℕ)) → linesOf text ≡ ls → Runs budget text ⊎ EndsAtOnce budget text
+  by-lines [] a = inr (no-line a)
+  by-lines (first ∷ rest) a = by-options first rest a (optionsOfLine first) refl
+
+pub demand-3-days : Demand3Days
+demand-3-days budget text = record { replayed = replayed budget text; day = by-lines budget text (linesOf text) refl }

@@ -163,10 +163,10 @@ pub refused-lines : logOf 100 longerText ≡ longerLog
 unfolding longerText longerLog dayText dayLog inLines digits logOf textOf day linesOf frames make inRange optionsOfLine optionsOf frameOfLine bytesOf unhex valueOf digitOf lineOf hexOf step tests first outcome frameOf frameOfFields at4 at8 event handle request queue markAsReady succeeded checkIn service canService serveFront checkOut takeAvailable lend establish createPendingConnection told leaveLent leavePending shelve lendOut enter _>>_ if_then_else_ numbered entryBytes recordBytes
 refused-lines = refl
 
--- they count as frames used
-pub refused-lines-used : framesUsed 100 longerText ≡ 10
+-- they count as frames used, as far as the budget goes
+pub refused-lines-used : (framesUsed 100 longerText ≡ 10) × (framesUsed 9 longerText ≡ 9)
 unfolding framesUsed longerText dayText inLines digits day linesOf make inRange optionsOfLine optionsOf bytesOf unhex valueOf digitOf at4 at8 if_then_else_
-refused-lines-used = refl
+refused-lines-used = (refl, refl)
 
 -- a first line that is none, that does not begin with zeros, that asks for 65: that one record, and nothing of what follows
 pub badStart : ℕ → List ℕ
@@ -178,6 +178,10 @@ pub refused-options :
     × (logOf 100 (badStart 0x00000000_00000041_0000000000000000_0000000000000000) ≡ inLines 32 (0x200a0000_00000000_00000001_00000000 ∷ []))
 unfolding badStart inLines digits logOf textOf day linesOf make inRange optionsOfLine optionsOf bytesOf unhex valueOf digitOf lineOf hexOf at4 at8 if_then_else_ entryBytes recordBytes
 refused-options = (refl, refl, refl)
+
+pub refused-options-used : framesUsed 100 (badStart 0x00000000_00000041_0000000000000000_0000000000000000) ≡ 0
+unfolding framesUsed badStart inLines digits day linesOf make inRange optionsOfLine optionsOf bytesOf unhex valueOf digitOf at4 at8 if_then_else_
+refused-options-used = refl
 
 -- ── A record of each kind ──────────────────────────────────────────────────────────────────────────────────────────────
 

@@ -1,20 +1,25 @@
--- The five wrong pools of the description: nothing that meets the contract of `step` is one of them.
+-- The five wrong pools of the description, and one that serves twice: nothing that meets the contract of `step` is one of them.
 use mathlib.Core.Path.{_≡_, refl, sym, ap, subst, _∙_}
-use mathlib.Core.Bool.{true}
-use mathlib.Core.List.{List, [], _∷_}
+use mathlib.Core.Bool.{true, false, true≢false}
+use mathlib.Core.List.{List, [], _∷_, map}
+use mathlib.Core.Option.{Option, none, some}
 use Prim.Native.Nat.{ℕ, _+_, _≤_, _<_}
 use native.Mathlib.Omega.{arith}
-use lib.ListN.{length, getD, replicate, length-replicate}
+use lib.ListN.{length, getD, replicate, length-replicate, length-append, length-map}
+use Rattle.definition.specs.Booleans.{by-bool}
 use Rattle.definition.specs.Words.{if_then_else_}
 use Rattle.definition.specs.Pool as D
 use Rattle.definition.specs.Pool.{fresh, inRange}
 use Rattle.definition.specs.Records.{Record, PoolReady, told}
-use Rattle.definition.specs.Steps.{Out, _>>_, leaveLent, leavePending, shelve, lendOut, createPendingConnection, createMany, closePerished, tellAll, enter, queue, request, markAsReady, handle, canService, establish, lend, takeAvailable, checkOut, serveFront, service, event}
+use Rattle.definition.specs.Steps.{Out, _>>_, leaveLent, leavePending, shelve, lendOut, createPendingConnection, createMany, closePerished, tellAll, enter, queue, request, markAsReady, succeededForPool, removePerished, ensureMinConnections, maintenance, handle, canService, establish, lend, takeAvailable, checkOut, serveFront, service, event}
 use Rattle.definition.specs.Refusals as R
-use Rattle.definition.specs.Refusals.{first, tests, outcome, enoughRoom}
+use Rattle.definition.specs.Refusals.{first, tests, outcome, after, run, enoughRoom}
 use Rattle.definition.specs.Bytes.{serialOf, at4, at8, frameOfFields, frameOf, recordBytes}
+use Rattle.definition.specs.Log.{answered}
+use Rattle.definition.specs.Sentences.{front-answered, service-once}
+use Rattle.definition.specs.Cases.{frame, called}
 use Rattle.definition.specs.declared.Options.{Options}
-use Rattle.definition.specs.declared.Event.the-variants.{CheckOut, MarkAsReady}
+use Rattle.definition.specs.declared.Event.the-variants.{CheckOut, MarkAsReady, FillPool}
 use Rattle.definition.specs.declared.Frame.{Frame}
 use Rattle.definition.specs.declared.Frame.the-variants.{Good}
 use Rattle.definition.specs.declared.PoolState.{PoolState}
@@ -26,13 +31,16 @@ use Rattle.slots.specs.Laid.{laid}
 use Rattle.slots.specs.declared.Outcome.{Outcome}
 use Rattle.slots.specs.declared.Outcome.the-variants.{Refused, Accepted}
 use Rattle.refinement.specs.Stands.{Stands, Formed}
+use Rattle.refinement.specs.Rules.{Rules, listsOf, rules-stand}
 use Rattle.refinement.specs.Formed.{fresh-stands, fresh-formed}
 use Rattle.columns.specs.View.{viewOf}
 use Rattle.pool.specs.Making.{freshPool}
-use Rattle.entry.specs.Entry.{Entered, entry}
-use Rattle.entry.specs.Tested.{Typed}
-use Rattle.entry.specs.Meaning.{Done, entry-meant, entry-formed, formed-typed}
+use Rattle.entry.specs.Entry.{Entered, keeps, entry}
+use Rattle.entry.specs.Tested.{Typed, keeps-exact}
+use Rattle.entry.specs.Meaning.{Done, entry-meant, entry-formed, Meant, entry-unkept, rules-meant, formed-typed, Lend, left, Ran, entries-run, counts-meant}
+use Rattle.entry.specs.Meaning as M
 use Rattle.pool.specs.declared.Pool.{Pool}
+use Rattle.pool.specs.declared.Counts.{Counts}
 
 -- ── Two calls of a made pool ───────────────────────────────────────────────────────────────────────────────────────────
 
@@ -41,10 +49,10 @@ options = record { maximum = 10; minimum = 0; connecting = 2; idle = 0 }
 
 -- ready, at time 1; then request 1, at time 1
 unfoldable ready : List ℕ
-ready = 6 ∷ 0 ∷ 0 ∷ 0 ∷ 0 ∷ 0 ∷ 0 ∷ 0 ∷ 0 ∷ 0 ∷ 0 ∷ 0 ∷ 0 ∷ 0 ∷ 0 ∷ 1 ∷ 0 ∷ 0 ∷ 0 ∷ 0 ∷ 0 ∷ 0 ∷ 0 ∷ 0 ∷ []
+ready = frame 0x06000000 0 1 0
 
 unfoldable asked : List ℕ
-asked = 1 ∷ 0 ∷ 0 ∷ 0 ∷ 0 ∷ 0 ∷ 0 ∷ 1 ∷ 0 ∷ 0 ∷ 0 ∷ 0 ∷ 0 ∷ 0 ∷ 0 ∷ 1 ∷ 0 ∷ 0 ∷ 0 ∷ 0 ∷ 0 ∷ 0 ∷ 0 ∷ 0 ∷ []
+asked = frame 0x01000000 1 1 0
 
 ready-frame : frameOf ready ≡ Good MarkAsReady 1
 unfolding ready frameOf frameOfFields at4 at8 if_then_else_
@@ -113,6 +121,106 @@ done2 : Done next room (entry next asked room) o2
 done2 = entry-meant next (o1 .pool) (done1 .pool) goes-on asked room .accepts o2
     (ap (λ (f : Frame). R.step (o1 .pool) f (length room)) asked-frame ∙ ap (R.step (o1 .pool) (Good (CheckOut 1) 1)) room-long ∙ calls .second)
 
+-- ── Two wait, and two are available ────────────────────────────────────────────────────────────────────────────────────
+
+-- at most two connections, and no fewer
+abbrev two : Options
+two = record { maximum = 2; minimum = 2; connecting = 2; idle = 0 }
+
+-- Maintenance makes both, in background, so whoever asks has to wait: two requests that warm the pool, then two plain ones. As each
+-- connection is opened a warming request is served, and takes none.
+unfoldable busyCalls : List (List ℕ)
+busyCalls =
+    ready ∷ frame 0x0a000000 0 1 0 ∷
+    frame 0x02000000 1 1 0 ∷ frame 0x02000000 2 1 0 ∷ frame 0x01000000 3 1 0 ∷ frame 0x01000000 4 1 0 ∷
+    frame 0x08000000 1 1 1 ∷ frame 0x08000000 2 1 1 ∷ []
+
+-- a fill, at the same time
+unfoldable pub fill : List ℕ
+fill = frame 0x0b000000 0 1 0
+
+fill-frame : frameOf fill ≡ Good FillPool 1
+unfolding fill frameOf frameOfFields at4 at8 if_then_else_
+fill-frame = refl
+
+abbrev busyLists : D.Pool
+busyLists = run (map called busyCalls) (fresh two) .pool
+
+record Busy (m : D.Pool) : Type 0 where
+  ready : m .state ≡ Ready
+  available : length (m .available) ≡ 2
+  waiting : length (m .waiting) ≡ 2
+  fills : R.step m (Good FillPool 1) enoughRoom ≡ R.Accepted (outcome (Good FillPool 1) m)
+
+busy-lists : Busy busyLists
+unfolding busyCalls ready run R.step tests first outcome frameOf frameOfFields at4 at8 event handle request queue markAsReady succeededForPool maintenance removePerished closePerished ensureMinConnections createMany service canService serveFront checkOut takeAvailable lend establish createPendingConnection told leaveLent leavePending shelve lendOut enter _>>_ if_then_else_
+busy-lists = record { ready = refl; available = refl; waiting = refl; fills = refl }
+
+abbrev lends : List (List ℕ) → List Lend
+lends = map (λ b. record { bytes = b; out = room })
+
+lends-called : (bs : List (List ℕ)) → M.calls (lends bs) ≡ map called bs
+lends-called [] = refl
+lends-called (b ∷ bs) = rw (room-long, lends-called bs)
+
+two-in-range : inRange two ≡ true
+unfolding inRange
+two-in-range = refl
+
+abbrev busy : Pool
+busy = left (lends busyCalls) (freshPool two)
+
+busy-ran : Ran (lends busyCalls) (freshPool two) (fresh two)
+busy-ran = entries-run (lends busyCalls) (freshPool two) (fresh two) (fresh-stands two two-in-range) (fresh-formed two two-in-range)
+
+busy-stands : Stands (viewOf busy) busyLists
+busy-stands = subst (λ (cs : List R.Call). Stands (viewOf busy) (run cs (fresh two) .pool)) (lends-called busyCalls) (busy-ran .pool)
+
+busy-filled : Done busy room (entry busy fill room) (outcome (Good FillPool 1) busyLists)
+busy-filled = entry-meant busy busyLists busy-stands (busy-ran .formed) fill room .accepts _
+    (ap (λ (f : Frame). R.step busyLists f (length room)) fill-frame ∙ ap (R.step busyLists (Good FillPool 1)) room-long ∙ busy-lists .fills)
+
+-- ── A fill takes one waiter at most ────────────────────────────────────────────────────────────────────────────────────
+
+-- the service stage does
+service-takes : (m : D.Pool) → length (m .waiting) ≤ length (service m .pool .waiting) + 1
+service-takes m =
+    let l : length (m .waiting) ≡ length (answered (service m .records)) + length (service m .pool .waiting) =
+    simp (length-append, length-map) at (ap length (front-answered m)) in
+    omega (arith, l, service-once m)
+
+fill-takes : (m : D.Pool) (now room : ℕ) → length (m .waiting) ≤ length (after m (R.step m (Good FillPool now) room) .pool .waiting) + 1
+unfolding R.step outcome event handle _>>_ if_then_else_
+fill-takes m now room = go (first (tests m (Good FillPool now) room))
+  where
+    go : (r : Option Refusal) → length (m .waiting) ≤ length (after m (R.verdict r (outcome (Good FillPool now) m)) .pool .waiting) + 1
+    go none = service-takes (D.withClock m now)
+    go (some x) = omega arith
+
+-- as many wait as in the lists that are meant
+waiting-meant : (p : Pool) (m : D.Pool) → Stands (viewOf p) m → (l : List ℕ) (w : Entered) (r : R.Result) → Meant p l w r
+    → w .pool .head .«waiting_count» ≡ length (after m r .pool .waiting)
+waiting-meant p m st l w (R.Refused x) k = ap (λ (v : Entered). v .pool .head .«waiting_count») (k .refuses x refl) ∙ ap (λ (c : Counts). c .waiting) (counts-meant p m st)
+waiting-meant p m st l w (R.Accepted o) k = ap (λ (c : Counts). c .waiting) (counts-meant (w .pool) (o .pool) (k .accepts o refl .pool))
+
+entry-takes : (p : Pool) → Typed p → (b l : List ℕ) (now : ℕ) → frameOf b ≡ Good FillPool now
+    → p .head .«waiting_count» ≤ entry p b l .pool .head .«waiting_count» + 1
+entry-takes p t b l now f = by-bool (keeps p) (λ k. kept (keeps-exact p t .sound k)) broken
+  where
+    kept : Rules (viewOf p) → p .head .«waiting_count» ≤ entry p b l .pool .head .«waiting_count» + 1
+    kept r =
+        let m = listsOf (viewOf p) in
+        let st = rules-stand (viewOf p) r in
+        let a : p .head .«waiting_count» ≡ length (m .waiting) = ap (λ (c : Counts). c .waiting) (counts-meant p m st) in
+        let z = waiting-meant p m st l (entry p b l) (R.step m (frameOf b) (length l)) (rules-meant p r b l) in
+        let one : length (m .waiting) ≤ length (after m (R.step m (frameOf b) (length l)) .pool .waiting) + 1 = rw f (fill-takes m now (length l)) in
+        omega (arith, a, z, one)
+
+    broken : keeps p ≡ false → p .head .«waiting_count» ≤ entry p b l .pool .head .«waiting_count» + 1
+    broken k =
+        let e : entry p b l .pool ≡ p = ap (λ (w : Entered). w .pool) (entry-unkept p t (λ r. true≢false (sym (keeps-exact p t .complete r) ∙ k)) b l) in
+        rw e (omega arith)
+
 -- ── What meets the contract ────────────────────────────────────────────────────────────────────────────────────────────
 
 abbrev pub Calling : Type 0
@@ -175,3 +283,20 @@ module _ (e : Calling) (h : Meets e) where
   -- nor one that invents its count
   pub not-inventing : (c : ℕ) → ((p : Pool) (b l : List ℕ) (n : ℕ) → e p b l .outcome ≡ Accepted n → n ≡ c) → ⊥
   not-inventing c n = omega (arith, n start ready room 1 says-one, n next asked room 2 says-two)
+
+  -- a fill takes one waiter at most, out of any pool value;
+  pub serves-once : (p : Pool) → Typed p → (b l : List ℕ) (now : ℕ) → frameOf b ≡ Good FillPool now
+      → p .head .«waiting_count» ≤ e p b l .pool .head .«waiting_count» + 1
+  serves-once p t b l now f = rw (h p t b l) (entry-takes p t b l now f)
+
+  -- so it is not one that serves twice: where two wait and two are available, that would take both from the queue
+  pub not-serving-twice :
+      ((p : Pool) (l : List ℕ) (n : ℕ) → p .head .status .state ≡ Ready → 2 ≤ p .head .«available_count» → 2 ≤ p .head .«waiting_count»
+      → e p fill l .outcome ≡ Accepted n → e p fill l .pool .head .«waiting_count» + 2 ≤ p .head .«waiting_count») → ⊥
+  not-serving-twice n =
+      let t = formed-typed busy (busy-ran .formed) in
+      let c = counts-meant busy busyLists busy-stands in
+      let a : busy .head .«available_count» ≡ 2 = ap (λ (c : Counts). c .available) c ∙ busy-lists .available in
+      let w : busy .head .«waiting_count» ≡ 2 = ap (λ (c : Counts). c .waiting) c ∙ busy-lists .waiting in
+      let o = ap (λ (w : Entered). w .outcome) (h busy t fill room) ∙ busy-filled .outcome in
+      omega (arith, serves-once busy t fill room 1 fill-frame, n busy room _ (busy-stands .alike .state ∙ busy-lists .ready) (omega (arith, a)) (omega (arith, w)) o)

@@ -1,5 +1,6 @@
 -- What the code says of a day that is read and written: the text fed so far, and how much of its log went out.
 use mathlib.Core.Path.{_≡_, refl, sym, ap, subst, _∙_}
+use mathlib.Core.Bool.{Bool}
 use mathlib.Core.List.{List, [], _++_}
 use Prim.Native.Nat.{ℕ, _+_, _-_, _≤_}
 use native.Mathlib.Omega.{arith}
@@ -53,18 +54,18 @@ drains-all s₀ b t s c at e d = subst (λ (x : List ℕ). Drains s₀ b x s c) 
 
 -- ── The end ────────────────────────────────────────────────────────────────────────────────────────────────────────────────
 
-pub record Ends (s : Session) (read before : ℕ) (o o' : List ℕ) (r : Played) : Type 0 where
+pub record Ends (s : Session) (got before : ℕ) (o o' : List ℕ) (r : Played) : Type 0 where
   pub n : ℕ
   pub finishes : Finishes (finish onSlots (viewIn s .state) (viewIn s .held)) o o' (r .used) n
-  pub read : r .read ≡ read
+  pub read : r .read ≡ got
   pub sent : r .sent ≡ before + n
 
 finishes-length : (k : Took Play ℕ) (o o' : List ℕ) (u n : ℕ) → Finishes k o o' u n → length (take n o') ≡ n
 finishes-length k o o' u n f = ap length (ap (take n) (f .laid) ∙ take-at (k .out) (drop n o) n (sym (f .written))) ∙ sym (f .written)
 
-pub ends : (s : Session) (read before : ℕ) (o o' : List ℕ) (u n c : ℕ) → Finishes (finish onSlots (viewIn s .state) (viewIn s .held)) o o' u n
-    → c ≡ before + length (take n o') → Ends s read before o o' (record { good = true; used = u; read = read; sent = c })
-ends s read before o o' u n c f k =
+pub ends : (s : Session) (got before : ℕ) (o o' : List ℕ) (good : Bool) (u n c : ℕ) → Finishes (finish onSlots (viewIn s .state) (viewIn s .held)) o o' u n
+    → c ≡ before + length (take n o') → Ends s got before o o' (record { good = good; used = u; read = got; sent = c })
+ends s got before o o' good u n c f k =
     record {
       n = n;
       finishes = f;
@@ -82,33 +83,33 @@ pub record Plays (budget : ℕ) (r : Played) : Type 0 where
   pub used : r .used ≡ framesUsed budget text
 
 -- between two reads
-pub record Going (budget : ℕ) (s : Session) (read sent : ℕ) : Type 0 where
+pub record Going (budget : ℕ) (s : Session) (got gone : ℕ) : Type 0 where
   pub text : List ℕ
   pub log : List ℕ
   pub soFar : SoFar budget text log s
-  pub read : read ≡ length text
-  pub sent : sent ≡ length log
+  pub read : got ≡ length text
+  pub sent : gone ≡ length log
   pub ready : Ready s
 
 pub going-begin : (budget : ℕ) (s : Session) → Begins budget s → Going budget s 0 0
 going-begin budget s b = record { text = []; log = []; soFar = so-far-begin budget s b; read = refl; sent = refl; ready = b .ready }
 
-pub going-more : (budget : ℕ) (s : Session) (read sent : ℕ) (piece : List ℕ) (s' : Session) (c : ℕ) → Going budget s read sent → Drains s sent piece s' c
-    → Going budget s' (read + length piece) c
-going-more budget s read sent piece s' c g d =
+pub going-more : (budget : ℕ) (s : Session) (got gone : ℕ) (piece : List ℕ) (n : ℕ) (s' : Session) (c : ℕ) → n ≡ length piece → Going budget s got gone
+    → Drains s gone piece s' c → Going budget s' (got + n) c
+going-more budget s got gone piece n s' c e g d =
     let a : length (g .text ++ piece) ≡ length (g .text) + length piece = length-append (g .text) piece in
     let b : length (g .log ++ d .log) ≡ length (g .log) + length (d .log) = length-append (g .log) (d .log) in
     record {
       text = g .text ++ piece;
       log = g .log ++ d .log;
       soFar = so-far-piece budget (g .text) (g .log) s piece (d .log) s' (g .soFar) (d .fed);
-      read = omega (arith, g .read, a);
+      read = omega (arith, g .read, a, e);
       sent = omega (arith, g .sent, d .sent, b);
       ready = d .ready;
     }
 
-pub going-end : (budget : ℕ) (s : Session) (read sent : ℕ) (o o' : List ℕ) (r : Played) → Going budget s read sent → Ends s read sent o o' r → Plays budget r
-going-end budget s read sent o o' r g e =
+pub going-end : (budget : ℕ) (s : Session) (got gone : ℕ) (o o' : List ℕ) (r : Played) → Going budget s got gone → Ends s got gone o o' r → Plays budget r
+going-end budget s got gone o o' r g e =
     let w = so-far-end budget (g .text) (g .log) s o o' (r .used) (e .n) (g .soFar) (e .finishes) in
     let l : length (take (e .n) o') ≡ e .n =
     finishes-length (finish onSlots (viewIn s .state) (viewIn s .held)) o o' (r .used) (e .n) (e .finishes) in

@@ -153,6 +153,7 @@ pub fn read() -> Asked
     }
     if a.is_number {
         a.good = false;
+        return a;
     }
     a
 }

@@ -98,7 +98,8 @@ fn end(day: Session, read: u64, sent: u64, out: &mut [u8]) -> Played
     }
 }
 
-fn broken() -> Played
+// No whole day.
+pub fn broken() -> Played
     ensures { λ r. ⌜ (r .good ≡ true → ⊥) ⌝ }
 {
     Played {

@@ -38,7 +38,7 @@ pub fn kind_no(e: Event) -> u8
     }
 }
 
-// Whoever holds or awaits a connection is still heard after the close.
+// A closed pool still takes kinds 4, 7 to 9 and 12 to 14.
 fn taken_after_close(kind: u8) -> bool
     ensures { λ r. ⌜ r ≡ takenAfter kind ⌝ }
 {

@@ -69,7 +69,7 @@ abbrev pub chosen : Option Options → (budget : ℕ) → List (List ℕ) → Da
 chosen none budget ls = badOptions Malformed
 chosen (some o) budget ls = opened (make o) budget ls
 
--- lines are counted from the options on, and an empty text is refused as if it had a bad one
+-- lines are counted from that of the options; an empty text is refused like a bad one
 unfoldable pub day : (budget : ℕ) → List (List ℕ) → Day
 day budget [] = badOptions Malformed
 day budget (l ∷ ls) = chosen (optionsOfLine l) budget ls

@@ -40,7 +40,7 @@ inRange o =
 
 -- ── Connections and waiters ────────────────────────────────────────────────────────────────────────────────────────────
 
--- `time`: an available one has been so since then; with any other, something last happened to it then, by an accepted event
+-- `time`: an available one is so since then; any other was last touched then, by an accepted event
 pub record Conn : Type 0 where
   pub id : ℕ
   pub generation : ℕ

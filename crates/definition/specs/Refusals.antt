@@ -93,7 +93,7 @@ kindTests p (ReturnToPinner n) now = (WrongState if not (hasIn pinnedInUse n (p 
 kindTests p (TakeFromPinner n) now = (WrongState if not (hasIn pinned n (p .lent))) ∷ []
 kindTests p Close now = []
 
--- 4: after the close only what happens to a connection that is out, or on its way, is heard
+-- 4: a closed pool still takes kinds 4, 7 to 9 and 12 to 14
 abbrev pub takenAfterClose : Event → Bool
 takenAfterClose e = kindNo e =? 4 || 7 to 9 holds kindNo e || 12 to 14 holds kindNo e
 

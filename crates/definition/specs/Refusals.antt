@@ -160,6 +160,6 @@ pub data Making : Type 0 where
   NotMade : Refusal → Making
   Made : Pool → Making
 
--- options are tested after defaults are filled in
+-- a 0 is never out of range where it means the default
 unfoldable pub make : Options → Making
 make o = if inRange (withDefaults o) then Made (fresh (withDefaults o)) else NotMade OptionsOutOfRange

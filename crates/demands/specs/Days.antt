@@ -39,6 +39,7 @@ use Rattle.replay.specs.Calls.{feed, ended}
 use Rattle.replay.specs.Whole.{lines, text-lines, slots-tame}
 use Rattle.replay.specs.Lists.{Lists, Stage, First, Going, Ended, onLists, start, answered}
 use Rattle.replay.specs.Meaning.{Plays, Tied, Says, lines-say}
+use Rattle.replay.specs.Sessions.{so-far-end}
 use Rattle.replay.specs.Days.{day-whole, day-room, day-begins}
 use Rattle.demands.specs.Demands.{Kept, lineCalls, saidIn, lastPool, Replayed, Runs, EndsAtOnce, Demand3ForDay, Demand3Days}
 use Rattle.demands.specs.Calls.{kept, numbered-append}
@@ -203,4 +204,4 @@ module _ (budget : ℕ) (text : List ℕ) where
   by-lines (first ∷ rest) a = by-options first rest a (optionsOfLine first) refl
 
 pub demand-3-days : Demand3Days
-demand-3-days budget text = record { replayed = replayed budget text; day = by-lines budget text (linesOf text) refl }
+demand-3-days budget text = record { replayed = replayed budget text; streamed = so-far-end budget text; day = by-lines budget text (linesOf text) refl }

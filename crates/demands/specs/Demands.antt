@@ -35,9 +35,12 @@ use Rattle.entry.specs.Tested.{Typed}
 use Rattle.entry.specs.Meaning.{Meant, Lend, calls, left, shortOrBad}
 use Rattle.first_line.specs.Took.{lineRoom}
 use Rattle.lines.specs.OnSlots.{onSlots}
-use Rattle.session.specs.Code.{opening}
+use Rattle.pieces.specs.Feed.{finish}
+use Rattle.session.specs.Code.{opening, viewIn, Finishes}
+use Rattle.session.specs.declared.Session.{Session}
 use Rattle.replay.specs.Calls.{feed, ended}
 use Rattle.replay.specs.Days.{Prefix, dayIn}
+use Rattle.replay.specs.Sessions.{SoFar}
 
 -- ── 1. Any event, on any pool value, with any output buffer, is accepted or refused ────────────────────────────────────
 
@@ -122,6 +125,14 @@ pub record Replayed (budget : ℕ) (text : List ℕ) (room : ℕ) : Type 0 where
   pub log : dayIn room budget text .whole ≡ true → dayIn room budget text .took .out ≡ Day.logOf budget text
   pub used : dayIn room budget text .whole ≡ true → dayIn room budget text .took .state .used ≡ framesUsed budget text
 
+-- and so does a day under way, from its beginning through pieces of any cut, each with any output, to its end (`SoFar`: the text was read
+-- so far, and the log is all that was written)
+abbrev pub Streamed : (budget : ℕ) → (text : List ℕ) → Type 0
+Streamed budget text =
+    (log : List ℕ) (s : Session) (before after : List ℕ) (used n : ℕ) → SoFar budget text log s
+    → Finishes (finish onSlots (viewIn s .state) (viewIn s .held)) before after used n
+    → (log ++ take n after ≡ Day.logOf budget text) × (used ≡ framesUsed budget text)
+
 -- with good options: the log's records are those of the run, and all that is promised of a run holds of them and of the last pool
 pub record Runs (budget : ℕ) (text : List ℕ) : Type 0 where
   pub asked : Options
@@ -142,6 +153,7 @@ pub record EndsAtOnce (budget : ℕ) (text : List ℕ) : Type 0 where
 
 pub record Demand3ForDay (budget : ℕ) (text : List ℕ) : Type 0 where
   pub replayed : (room : ℕ) → Replayed budget text room
+  pub streamed : Streamed budget text
   pub day : Runs budget text ⊎ EndsAtOnce budget text
 
 abbrev pub Demand3Days : Type 0

@@ -10,7 +10,10 @@ use std::{
     time::{set_clock, Duration},
 };
 
-use tokio::sync::{broadcast, oneshot::Receiver};
+use tokio::{
+    counts::{script_noted, Counts},
+    sync::{broadcast, oneshot::Receiver},
+};
 
 use crate::{
     cmap::{
@@ -116,6 +119,11 @@ impl Harness {
             seen: Vec::new(),
             spawned,
         }
+    }
+
+    /// The worker's own counts after the last event; nothing once it has ended.
+    pub(crate) fn counts(&self) -> Option<Counts> {
+        self.worker.as_ref().and_then(|_| script_noted())
     }
 
     pub(crate) fn generation(&self) -> u32 {

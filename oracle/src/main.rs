@@ -40,6 +40,7 @@ use rest::{bson, client, options, serde_util, ServerType};
 const USAGE: &str = "\
 usage: oracle [--budget N] [--used]            a day on standard input, its log on standard output
        oracle answers                          stored days on standard input, their answers filled in
+       oracle counts                           stored days on standard input, the worker's counts after each frame
        oracle choose N SEED                    of N generated days those that show something new
        oracle generate N SEED                  N generated days in stored form, answered
        oracle exhaust DEPTH                    every day of tiny pools up to DEPTH, in stored form
@@ -54,6 +55,7 @@ fn main() {
     let words: Vec<&str> = arguments.iter().map(String::as_str).collect();
     match words.as_slice() {
         ["answers"] => stored::answers(),
+        ["counts"] => stored::counts(),
         ["choose", n, seed] => stored::choose(number(n), number(seed)),
         ["generate", n, seed] => stored::print(generate::Source::seeded(number(n), number(seed))),
         ["exhaust", depth] => stored::print(generate::Source::exhaustive(number(depth))),

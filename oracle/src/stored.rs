@@ -7,7 +7,7 @@ use std::{
 };
 
 use crate::{
-    added::Replay,
+    added::{Pool, Replay},
     generate::{parted, Source},
     put,
     shrink::shrink,
@@ -15,8 +15,25 @@ use crate::{
     text::{kind, line_bytes, push_line, record, Frame, Lines, Options, Record},
 };
 
+/// What is printed under a line of a stored day.
+#[derive(Clone, Copy)]
+enum Told {
+    Records,
+    /// The worker's own counts: total, pending, available, waiting.
+    Counts,
+}
+
 /// Stored days on standard input with the answers, if any, replaced by the oracle's.
 pub(crate) fn answers() {
+    stored(Told::Records);
+}
+
+/// Stored days on standard input, under each frame the worker's counts in place of the answers.
+pub(crate) fn counts() {
+    stored(Told::Counts);
+}
+
+fn stored(told: Told) {
     let mut day: Option<Answering> = None;
     for (number, line) in io::stdin().lock().lines().enumerate() {
         let line = line.unwrap_or_else(|e| stop(format!("cannot read standard input: {e}")));
@@ -27,7 +44,7 @@ pub(crate) fn answers() {
         let bytes = match words.split_once(' ') {
             _ if words.is_empty() || words.starts_with('#') => Vec::new(),
             Some(("day", _)) => {
-                finish(day.replace(Answering::new()));
+                finish(day.replace(Answering::new(told)));
                 Vec::new()
             }
             _ => bytes_of(words).unwrap_or_else(|| stop(format!("line {}: {line}", number + 1))),
@@ -64,7 +81,7 @@ pub(crate) fn print(source: Source) {
 
 pub(crate) fn print_day(name: &str, day: &[u8]) {
     put(format!("day {name}\n").as_bytes());
-    let mut answering = Answering::new();
+    let mut answering = Answering::new(Told::Records);
     for (number, line) in day.split_inclusive(|&b| b == b'\n').enumerate() {
         put(format!("{}\n", words_of(line, number == 0)).as_bytes());
         answering.feed(line);
@@ -73,16 +90,18 @@ pub(crate) fn print_day(name: &str, day: &[u8]) {
     put(b"\n");
 }
 
-/// A day whose records are printed as they come.
+/// A day whose records, or counts, are printed as they come.
 struct Answering {
+    told: Told,
     replay: Replay,
     lines: Lines,
     records: Vec<Record>,
 }
 
 impl Answering {
-    fn new() -> Self {
+    fn new(told: Told) -> Self {
         Self {
+            told,
             replay: Replay::new(u64::MAX),
             lines: Lines::default(),
             records: Vec::new(),
@@ -91,24 +110,50 @@ impl Answering {
 
     fn feed(&mut self, bytes: &[u8]) {
         let Self {
+            told,
             replay,
             lines,
             records,
         } = self;
-        lines.feed(bytes, |line| replay.line(line, records));
-        print_records(records);
+        lines.feed(bytes, |line| {
+            replay.line(line, records);
+            tell(*told, replay, records);
+        });
     }
 
     fn finish(self) {
         let Self {
+            told,
             mut replay,
             lines,
             mut records,
         } = self;
-        lines.finish(|line| replay.line(line, &mut records));
+        lines.finish(|line| {
+            replay.line(line, &mut records);
+            tell(told, &replay, &mut records);
+        });
         replay.finish(&mut records);
-        print_records(&mut records);
+        if let Told::Records = told {
+            print_records(&mut records);
+        }
     }
+}
+
+fn tell(told: Told, replay: &Replay, records: &mut Vec<Record>) {
+    match (told, &replay.pool) {
+        (Told::Records, _) => print_records(records),
+        // The options alone give a pool that has not run.
+        (Told::Counts, Some(pool)) if replay.used > 0 => print_counts(pool),
+        (Told::Counts, _) => {}
+    }
+}
+
+fn print_counts(pool: &Pool) {
+    let told = match pool.harness.counts() {
+        Some(c) => format!("{} {} {} {}", c.total, c.pending, c.available, c.waiting),
+        None => "closed".to_string(),
+    };
+    put(format!("  = {told}\n").as_bytes());
 }
 
 fn print_records(records: &mut Vec<Record>) {

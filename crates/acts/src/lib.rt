@@ -71,7 +71,7 @@ pub fn close_connection(
     }
 }
 
-// Slot i to the back of the available list, available since the time given.
+// Slot i is available from that time on, and the last in line.
 pub fn shelve(
     head: Head,
     numbers: &mut Numbers,

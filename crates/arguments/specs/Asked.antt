@@ -1,28 +1,42 @@
 -- What a word asks of a replay.
+use mathlib.Core.Path.{_≡_}
 use mathlib.Core.Bool.{Bool, true, false, _&&_}
 use mathlib.Core.List.{List, [], _∷_}
 use mathlib.Core.Option.{Option, none, some}
+use mathlib.Core.Logic.{_⊎_}
 use Prim.Native.Nat.{ℕ, _+_, _-_, _*_}
 use lib.ListN.{length}
 use Rattle.definition.specs.Words.{if_then_else_, _=?_, _≤?_}
 use Rattle.arguments.specs.declared.Asked.{Asked}
 use Rattle.arguments.specs.declared.Number.{Number}
 
--- one digit more, where it is one and the number fits 64 bits
-abbrev pub digit? : (v c : ℕ) → Bool
-digit? v c = (48 ≤? c) && ((c ≤? 57) && (v * 10 + (c - 48) ≤? 18446744073709551615))
+-- the largest number of 64 bits
+abbrev pub most : ℕ
+most = 18446744073709551615
 
+abbrev pub digit? : ℕ → Bool
+digit? c = (48 ≤? c) && (c ≤? 57)
+
+-- digits behind a number so far
 unfoldable pub digits : (v : ℕ) → List ℕ → Option ℕ
 digits v [] = some v
-digits v (c ∷ l) = if digit? v c then digits (v * 10 + (c - 48)) l else none
+digits v (c ∷ l) = if digit? c then digits (v * 10 + (c - 48)) l else none
 
--- a number in decimal
+unfoldable pub allDigits : List ℕ → Bool
+allDigits [] = true
+allDigits (c ∷ l) = if digit? c then allDigits l else false
+
+-- a number in decimal, of any size
 unfoldable pub decimal : List ℕ → Option ℕ
 decimal w = if length w =? 0 then none else digits 0 w
 
+abbrev pub noNumber : (large : Bool) → Number
+noNumber large = record { good = false; «is_large» = large; value = 0 }
+
+-- and whether it fits
 abbrev pub numberOf : Option ℕ → Number
-numberOf none = record { good = false; value = 0 }
-numberOf (some n) = record { good = true; value = n }
+numberOf none = noNumber false
+numberOf (some n) = if n ≤? most then record { good = true; «is_large» = false; value = n } else noNumber true
 
 unfoldable pub same : List ℕ → List ℕ → Bool
 same [] [] = true
@@ -40,20 +54,20 @@ usedWord = 45 ∷ 45 ∷ 117 ∷ 115 ∷ 101 ∷ 100 ∷ []
 module _ (a : Asked) where
   -- the budget's number
   abbrev pub withBudget : Number → Asked
-  withBudget n = record { good = n .good; budget = n .value; «is_used» = a .«is_used»; file = a .file; «is_number» = false }
+  withBudget n = record { good = n .good; «is_large» = n .«is_large»; budget = n .value; «is_used» = a .«is_used»; file = a .file; «is_number» = false }
 
   abbrev pub beforeNumber : Asked
-  beforeNumber = record { good = a .good; budget = a .budget; «is_used» = a .«is_used»; file = a .file; «is_number» = true }
+  beforeNumber = record { good = a .good; «is_large» = a .«is_large»; budget = a .budget; «is_used» = a .«is_used»; file = a .file; «is_number» = true }
 
   abbrev pub withUsed : Asked
-  withUsed = record { good = a .good; budget = a .budget; «is_used» = true; file = a .file; «is_number» = a .«is_number» }
+  withUsed = record { good = a .good; «is_large» = a .«is_large»; budget = a .budget; «is_used» = true; file = a .file; «is_number» = a .«is_number» }
 
   -- the file, or a second one, which is bad
   abbrev pub withFile : ℕ → Asked
-  withFile i = record { good = a .good; budget = a .budget; «is_used» = a .«is_used»; file = i; «is_number» = a .«is_number» }
+  withFile i = record { good = a .good; «is_large» = a .«is_large»; budget = a .budget; «is_used» = a .«is_used»; file = i; «is_number» = a .«is_number» }
 
   abbrev pub bad : Asked
-  bad = record { good = false; budget = a .budget; «is_used» = a .«is_used»; file = a .file; «is_number» = a .«is_number» }
+  bad = record { good = false; «is_large» = a .«is_large»; budget = a .budget; «is_used» = a .«is_used»; file = a .file; «is_number» = a .«is_number» }
 
 -- the words so far, and the word that is argument i
 unfoldable pub asked : Asked → (i : ℕ) → List ℕ → Asked
@@ -63,3 +77,29 @@ asked a i w =
     else if same w usedWord then withUsed a
     else if a .file =? 0 then withFile a i
     else bad a
+
+-- an argument that some word is, or that can't be had
+pub record Word (a : Asked) (i : ℕ) (r : Asked) : Type 0 where
+  pub word : List ℕ
+  pub is : r ≡ asked a i word
+
+abbrev pub Takes : Asked → (i : ℕ) → Asked → Type 0
+Takes a i r = Word a i r ⊎ (r ≡ bad a)
+
+-- before the first: all frames are taken
+abbrev pub nothing : Asked
+nothing = record { good = true; «is_large» = false; budget = most; «is_used» = false; file = 0; «is_number» = false }
+
+-- all words, the last one first, up to a bad one
+unfoldable pub said : List (List ℕ) → Asked
+said [] = nothing
+said (w ∷ l) = if said l .good then asked (said l) (length l + 1) w else said l
+
+-- no number came behind --budget
+abbrev pub closed : Asked → Asked
+closed a = if a .«is_number» then bad a else a
+
+-- what some words ask, or what they do where the argument behind them can't be had
+pub record Reads (r : Asked) : Type 0 where
+  pub words : List (List ℕ)
+  pub are : (r ≡ closed (said words)) ⊎ (r ≡ bad (said words))

@@ -2,7 +2,8 @@
 use mathlib.Core.Path.{_≡_, refl, sym, ap, _∙_}
 use mathlib.Core.Bool.{Bool, true, false, false≢true, _&&_}
 use mathlib.Core.List.{List, [], _∷_}
-use mathlib.Core.Option.{none}
+use mathlib.Core.Option.{none, some}
+use mathlib.Core.Logic.{_⊎_, inl, inr}
 use Prim.Native.Nat.{ℕ, _+_, _-_, _*_, _≤_, _<_}
 use native.Mathlib.Omega.{arith}
 use native.Mathlib.Numerals.{add-one}
@@ -13,47 +14,82 @@ use Rattle.definition.specs.Booleans.{no-first, no-second}
 use Rattle.definition.specs.Words.{if_then_else_, _=?_, _≤?_}
 use Rattle.arguments.specs.declared.Asked.{Asked}
 use Rattle.arguments.specs.declared.Number.{Number}
-use Rattle.arguments.specs.Asked.{digit?, digits, decimal, numberOf, same, budgetWord, usedWord, withBudget, beforeNumber, withUsed, withFile, bad, asked}
+use Rattle.arguments.specs.Asked.{most, digit?, digits, allDigits, decimal, noNumber, numberOf, same, budgetWord, usedWord}
+use Rattle.arguments.specs.Asked.{withBudget, beforeNumber, withUsed, withFile, bad, asked, Word, Takes, nothing, said, closed, Reads}
 
 -- ── A number ───────────────────────────────────────────────────────────────────────────────────────────────────────────────
 
-module _ (v c : ℕ) where
-  pub is-digit : 48 ≤ c → c ≤ 57 → v * 10 + (c - 48) ≤ 18446744073709551615 → digit? v c ≡ true
-  is-digit h k f = rw (le-leb 48 c h, le-leb c 57 k, le-leb (v * 10 + (c - 48)) 18446744073709551615 f)
+module _ (c : ℕ) where
+  pub is-digit : 48 ≤ c → c ≤ 57 → digit? c ≡ true
+  is-digit h k = rw (le-leb 48 c h, le-leb c 57 k)
 
-  pub too-low : c < 48 → digit? v c ≡ false
+  pub too-low : c < 48 → digit? c ≡ false
   too-low h = no-first (48 ≤? c) _ (lt-leb 48 c h)
 
-  pub too-high : 57 < c → digit? v c ≡ false
-  too-high h = no-second (48 ≤? c) _ (no-first (c ≤? 57) _ (lt-leb c 57 h))
+  pub too-high : 57 < c → digit? c ≡ false
+  too-high h = no-second (48 ≤? c) _ (lt-leb c 57 h)
 
-  pub too-large : 18446744073709551615 < v * 10 + (c - 48) → digit? v c ≡ false
-  too-large h = no-second (48 ≤? c) _ (no-second (c ≤? 57) _ (lt-leb (v * 10 + (c - 48)) 18446744073709551615 h))
+-- a number that is too large stays so
+large-case : (u c : ℕ) (l : List ℕ) (b : Bool) → ((v : ℕ) → most < v → numberOf (digits v l) ≡ noNumber (allDigits l)) → most < u
+    → numberOf (if b then digits (u * 10 + (c - 48)) l else none) ≡ noNumber (if b then allDigits l else false)
+unfolding if_then_else_
+large-case u c l true ih h = ih (u * 10 + (c - 48)) (omega arith)
+large-case u c l false ih h = refl
+
+large-rest : (l : List ℕ) (u : ℕ) → most < u → numberOf (digits u l) ≡ noNumber (allDigits l)
+unfolding digits allDigits if_then_else_
+large-rest [] u h = rw (lt-leb u most h)
+large-rest (c ∷ l) u h = large-case u c l (digit? c) (λ v k. large-rest l v k) h
+
+module _ (w : List ℕ) (i : ℕ) where
+  here : i < length w → drop i w ≡ getD w i 0 ∷ drop (i + 1) w
+  here h = rw (add-one, drop-cons w i 0)
+
+  pub all-more : i < length w → digit? (getD w i 0) ≡ true → allDigits (drop i w) ≡ allDigits (drop (i + 1) w)
+  unfolding allDigits if_then_else_
+  all-more h e = ap allDigits (here h) ∙ rw e
+
+  pub all-stop : i < length w → digit? (getD w i 0) ≡ false → allDigits (drop i w) ≡ false
+  unfolding allDigits if_then_else_
+  all-stop h e = ap allDigits (here h) ∙ rw e
+
+  pub all-end : length w ≤ i → allDigits (drop i w) ≡ true
+  unfolding allDigits
+  all-end h = ap allDigits (drop-of-length-le w {i = i} h)
 
 module _ (w : List ℕ) (v i : ℕ) where
-  left : i < length w → digits v (drop i w) ≡ (if digit? v (getD w i 0) then digits (v * 10 + (getD w i 0 - 48)) (drop (i + 1) w) else none)
-  unfolding digits
-  left h = let e : drop i w ≡ getD w i 0 ∷ drop (i + 1) w = rw (add-one, drop-cons w i 0) in ap (digits v) e
+  pub digit-more : i < length w → digit? (getD w i 0) ≡ true → digits v (drop i w) ≡ digits (v * 10 + (getD w i 0 - 48)) (drop (i + 1) w)
+  unfolding digits if_then_else_
+  digit-more h e = ap (digits v) (here w i h) ∙ rw e
 
-  pub digit-more : i < length w → digit? v (getD w i 0) ≡ true → digits v (drop i w) ≡ digits (v * 10 + (getD w i 0 - 48)) (drop (i + 1) w)
-  unfolding if_then_else_
-  digit-more h e = left h ∙ rw e
+  no-digits : i < length w → digit? (getD w i 0) ≡ false → digits v (drop i w) ≡ none
+  unfolding digits if_then_else_
+  no-digits h e = ap (digits v) (here w i h) ∙ rw e
 
-  no-digits : i < length w → digit? v (getD w i 0) ≡ false → digits v (drop i w) ≡ none
-  unfolding if_then_else_
-  no-digits h e = left h ∙ rw e
-
-  pub no-number : digits 0 w ≡ digits v (drop i w) → i < length w → digit? v (getD w i 0) ≡ false → record { good = false; value = 0 } ≡ numberOf (decimal w)
+  -- a word that is not empty
+  some-word : digits 0 w ≡ digits v (drop i w) → (length w ≡ 0 → ⊥) → numberOf (digits v (drop i w)) ≡ numberOf (decimal w)
   unfolding decimal if_then_else_
-  no-number k h e = sym (rw (ne-eqb (length w) 0 (λ z. omega arith)) (ap numberOf (k ∙ no-digits h e)))
+  some-word k e = sym (rw (ne-eqb (length w) 0 e) (ap numberOf k))
 
-  pub a-number : digits 0 w ≡ digits v (drop i w) → length w ≤ i → (length w ≡ 0 → ⊥) → record { good = true; value = v } ≡ numberOf (decimal w)
-  unfolding digits decimal if_then_else_
-  a-number k h e = sym (rw (ne-eqb (length w) 0 e) (ap numberOf (k ∙ ap (digits v) (drop-of-length-le w {i = i} h))))
+  pub no-number : digits 0 w ≡ digits v (drop i w) → i < length w → digit? (getD w i 0) ≡ false → noNumber false ≡ numberOf (decimal w)
+  no-number k h e = sym (ap numberOf (no-digits h e)) ∙ some-word k (λ z. omega arith)
 
-pub nothing : (w : List ℕ) → length w ≡ 0 → record { good = false; value = 0 } ≡ numberOf (decimal w)
+  pub too-large : digits 0 w ≡ digits v (drop i w) → i < length w → digit? (getD w i 0) ≡ true → most < v * 10 + (getD w i 0 - 48)
+      → noNumber (allDigits (drop i w)) ≡ numberOf (decimal w)
+  too-large k h e g =
+      ap noNumber (all-more w i h e) ∙ sym (large-rest (drop (i + 1) w) (v * 10 + (getD w i 0 - 48)) g) ∙ sym (ap numberOf (digit-more h e))
+      ∙ some-word k (λ z. omega arith)
+
+  pub a-number : digits 0 w ≡ digits v (drop i w) → length w ≤ i → (length w ≡ 0 → ⊥) → v ≤ most
+      → record { good = true; «is_large» = false; value = v } ≡ numberOf (decimal w)
+  unfolding digits if_then_else_
+  a-number k h e g =
+      let f : digits v (drop i w) ≡ some v = ap (digits v) (drop-of-length-le w {i = i} h) in
+      sym (rw (le-leb v most g)) ∙ sym (ap numberOf f) ∙ some-word k e
+
+pub no-word : (w : List ℕ) → length w ≡ 0 → noNumber false ≡ numberOf (decimal w)
 unfolding decimal if_then_else_
-nothing w e = sym (rw (eq-eqb (length w) 0 e))
+no-word w e = sym (rw (eq-eqb (length w) 0 e))
 
 -- ── A word ─────────────────────────────────────────────────────────────────────────────────────────────────────────────────
 
@@ -104,3 +140,62 @@ module _ (a : Asked) (i : ℕ) (w : List ℕ) where
         pub asked-bad : (a .file ≡ 0 → ⊥) → bad a ≡ asked a i w
         unfolding asked if_then_else_
         asked-bad f = sym (rw (e, ← b, ← u, ne-eqb (a .file) 0 f))
+
+-- ── All words ──────────────────────────────────────────────────────────────────────────────────────────────────────────────
+
+-- good words so far, and the next argument is i
+pub record Saying (a : Asked) (i : ℕ) : Type 0 where
+  pub words : List (List ℕ)
+  pub is : a ≡ said words
+  pub next : i ≡ length words + 1
+  pub good : a .good ≡ true
+
+bad-itself : (a : Asked) → a .good ≡ false → bad a ≡ a
+bad-itself a e =
+    ap (λ (g : Bool). record { good = g; «is_large» = a .«is_large»; budget = a .budget; «is_used» = a .«is_used»; file = a .file; «is_number» = a .«is_number» })
+    (sym e)
+
+closed-bad : (a : Asked) → a .good ≡ false → a ≡ closed a
+unfolding if_then_else_
+closed-bad a e = go (a .«is_number»)
+  where
+    go : (b : Bool) → a ≡ (if b then bad a else a)
+    go true = sym (bad-itself a e)
+    go false = refl
+
+if-so : (b : Bool) (x y : Asked) → b ≡ true → (if b then x else y) ≡ x
+unfolding if_then_else_
+if-so b x y e = rw e
+
+said-good : (w : List ℕ) (l : List (List ℕ)) → said l .good ≡ true → said (w ∷ l) ≡ asked (said l) (length l + 1) w
+unfolding said
+said-good w l e = if-so (said l .good) (asked (said l) (length l + 1) w) (said l) e
+
+module _ (a : Asked) (i : ℕ) (s : Saying a i) where
+  said-word : (w : List ℕ) → asked a i w ≡ said (w ∷ s .words)
+  said-word w =
+      let g : said (s .words) .good ≡ true = ap (λ (x : Asked). x .good) (sym (s .is)) ∙ s .good in
+      ap (λ (x : Asked). asked x i w) (s .is) ∙ ap (λ (n : ℕ). asked (said (s .words)) n w) (s .next) ∙ sym (said-good w (s .words) g)
+
+  pub saying-more : (r : Asked) → Takes a i r → r .good ≡ true → Saying r (i + 1)
+  saying-more r (inl t) g = record { words = t .word ∷ s .words; is = t .is ∙ said-word (t .word); next = omega (arith, s .next); good = g }
+  saying-more r (inr e) g = absurd (false≢true (sym (ap (λ (x : Asked). x .good) e) ∙ g))
+
+  pub saying-bad : (r : Asked) → Takes a i r → r .good ≡ false → Reads r
+  saying-bad r (inl t) g =
+      let e : r ≡ said (t .word ∷ s .words) = t .is ∙ said-word (t .word) in
+      record { words = t .word ∷ s .words; are = inl (closed-bad r g ∙ ap closed e) }
+  saying-bad r (inr e) g = record { words = s .words; are = inr (e ∙ ap bad (s .is)) }
+
+  -- --budget is the last word
+  pub saying-open : a .«is_number» ≡ true → Reads (bad a)
+  unfolding if_then_else_
+  saying-open e = record { words = s .words; are = inl (sym (rw e) ∙ ap closed (s .is)) }
+
+  pub saying-all : a .«is_number» ≡ false → Reads a
+  unfolding if_then_else_
+  saying-all e = record { words = s .words; are = inl (sym (rw e) ∙ ap closed (s .is)) }
+
+pub saying-none : Saying nothing 1
+unfolding said
+saying-none = record { words = []; is = refl; next = refl; good = refl }

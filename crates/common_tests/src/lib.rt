@@ -49,7 +49,7 @@ fn causeless(e: Event) -> bool
     false
 }
 
-// A closed pool still takes kinds 4, 7 to 9 and 12 to 14.
+// Who holds a connection, or awaits one, is still heard after the close.
 fn taken_after_close(kind: u8) -> bool
     ensures { λ r. ⌜ r ≡ takenAfter kind ⌝ }
 {

@@ -40,7 +40,7 @@ plain flags second f = need (flags =? 0) (need (second =? 0) f)
 abbrev pub bare : (flags id second : ℕ) → Frame → Frame
 bare flags id second f = need (id =? 0) (plain flags second f)
 
--- flag 1 errored, 2 executing, 3 both
+-- the low bit: it met an error; the next: an answer is still under way
 abbrev pub checkInFrame : (flags id now second : ℕ) → Frame
 checkInFrame flags id now second =
     if flags =? 0 then Good (CheckIn id false false second) now else
@@ -54,7 +54,7 @@ clearFrame flags id now second =
     if flags =? 0 then plain 0 second (Good (Clear false id) now) else
     need (flags =? 1) (plain 0 second (Good (Clear true id) now))
 
--- kind 0 and 16 to 255 are bad frames
+-- no other number is a kind
 unfoldable pub frameOfFields : (kind flags id now second : ℕ) → Frame
 frameOfFields kind flags id now second =
     if kind =? 1 then plain flags second (Good (CheckOut id) now) else
@@ -82,7 +82,7 @@ frameOf b =
 
 -- ── Options ────────────────────────────────────────────────────────────────────────────────────────────────────────────
 
--- four zero bytes, maximum, minimum, max connecting (4 each), idle limit (8)
+-- the first four bytes have no use
 unfoldable pub optionsBytes : Options → List ℕ
 optionsBytes o = 0 ∷ 0 ∷ 0 ∷ 0 ∷ (be4 (o .maximum) ++ (be4 (o .minimum) ++ (be4 (o .connecting) ++ be8 (o .idle))))
 
@@ -94,11 +94,11 @@ optionsOf b =
 
 -- ── Records ────────────────────────────────────────────────────────────────────────────────────────────────────────────
 
--- after 4,294,967,295 the next serial is 0
+-- 32 bits are printed, so the count wraps
 abbrev pub serialOf : (written : ℕ) → ℕ
 serialOf written = written % 4294967296
 
--- kind, reason, two zeros, serial, id, other (4 each)
+-- bytes 2 and 3 have no use
 unfoldable pub recordBytes : (serial : ℕ) → Fields → List ℕ
 recordBytes serial r = r .kind ∷ r .reason ∷ 0 ∷ 0 ∷ (be4 serial ++ (be4 (r .id) ++ be4 (r .other)))
 

@@ -57,7 +57,7 @@ pub record Day : Type 0 where
   pub log : List Entry
   pub used : ℕ
 
--- bad options give that one record and end the run
+-- without a pool nothing can follow
 abbrev pub badOptions : Refusal → Day
 badOptions r = record { log = RefusedLine r 1 ∷ []; used = 0 }
 
@@ -69,7 +69,7 @@ abbrev pub chosen : Option Options → (budget : ℕ) → List (List ℕ) → Da
 chosen none budget ls = badOptions Malformed
 chosen (some o) budget ls = opened (make o) budget ls
 
--- the options line is line 1; no first line at all is 2
+-- lines are counted from that of the options; an empty text is refused like a bad one
 unfoldable pub day : (budget : ℕ) → List (List ℕ) → Day
 day budget [] = badOptions Malformed
 day budget (l ∷ ls) = chosen (optionsOfLine l) budget ls

@@ -40,7 +40,7 @@ inRange o =
 
 -- ── Connections and waiters ────────────────────────────────────────────────────────────────────────────────────────────
 
--- `time` is, for an available one, since when it is available; for any other, the last accepted event that named, created or lent it
+-- `time`: an available one is so since then; any other was last touched then, by an accepted event
 pub record Conn : Type 0 where
   pub id : ℕ
   pub generation : ℕ
@@ -93,7 +93,7 @@ poolWith o s g n c r w available lent pending waiting = record {
 abbrev pub fresh : Options → Pool
 fresh o = poolWith o New 0 1 0 0 0 [] [] [] []
 
--- a new connection: it takes the next id and the current generation
+-- what a creation adds
 abbrev pub newConn : Pool → Purpose → Conn
 newConn p why = record { id = p .nextId; generation = p .generation; time = p .clock; state = Pending why }
 
@@ -147,7 +147,7 @@ total p = length (p .available) + length (p .lent) + length (p .pending)
 abbrev pub staleIn : (generation : ℕ) → (of : ℕ) → Bool
 staleIn generation of = not (of =? generation)
 
--- idle: the limit isn't 0, and the elapsed time is at least the limit
+-- a limit of 0 makes nothing idle
 abbrev pub idleFor : (limit since now : ℕ) → Bool
 idleFor limit since now = 0 <? limit && limit ≤? now - since
 

@@ -98,7 +98,7 @@ kindTests p Close now = []
 abbrev pub causeless : Event → Bool
 causeless e = kindNo e =? 5 && partsOf e .id =? 0
 
--- 4: a closed pool still takes kinds 4, 7 to 9 and 12 to 14
+-- 4: after the close only what happens to a connection that is out, or on its way, is heard
 abbrev pub takenAfterClose : Event → Bool
 takenAfterClose e = kindNo e =? 4 || 7 to 9 holds kindNo e || 12 to 14 holds kindNo e
 
@@ -160,6 +160,6 @@ pub data Making : Type 0 where
   NotMade : Refusal → Making
   Made : Pool → Making
 
--- options are tested after defaults are filled in
+-- a 0 is never out of range where it means the default
 unfoldable pub make : Options → Making
 make o = if inRange (withDefaults o) then Made (fresh (withDefaults o)) else NotMade OptionsOutOfRange

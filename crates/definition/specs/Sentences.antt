@@ -65,7 +65,7 @@ module _ (n letGo : ℕ) (p : Pool) where
   unfolding checkIn leaveLent if_then_else_ _>>_
   closed-alone errored executing h = rw h
 
--- a success in background: to the back as it was, with the opened time, even if stale
+-- a success in background is put last as it is, whatever its generation, and is idle from its opening on
 pub opened-last : (n opened : ℕ) (p : Pool) → isClosed (p .state) ≡ false
     → succeededForPool n opened p .pool .available ≡ p .available ∷ʳ withState CheckedIn opened (find n (p .pending))
 unfolding succeededForPool leavePending shelve if_then_else_ _>>_
@@ -470,7 +470,7 @@ open-takes p e now room h r c t = rw (le-ltb room 8192 r, c, le-ltb now (p .cloc
 
 -- ── The order of refusals ──────────────────────────────────────────────────────────────────────────────────────────────
 
--- lowest number first, save that 12 is tested before 8
+-- where a test stands among the others: by its number, but for the pin, just ahead of the states
 unfoldable pub rank : Refusal → ℕ
 rank r = if refusalNo r =? 12 then 15 else 2 * refusalNo r
 

@@ -51,7 +51,7 @@ close reason n other = emit (ConnectionClosed reason n other)
 abbrev pub closedWithPool : Conn → Record
 closedWithPool c = ConnectionClosed PoolClosed (c .id) 0
 
--- to the back of the available list, available since the time given
+-- available from that time on, and the last in line
 unfoldable pub shelve : Conn → ℕ → Act Pool
 shelve c t p = become (withAvailable p (p .available ∷ʳ withState CheckedIn t c)) p
 
@@ -59,7 +59,7 @@ shelve c t p = become (withAvailable p (p .available ∷ʳ withState CheckedIn t
 unfoldable pub lendOut : Conn → Act Pool
 lendOut c p = become (withLent p (p .lent ∷ʳ withState CheckedOut (p .clock) c)) p
 
--- creation takes the next id and the current generation
+-- the pool gives its next number away
 unfoldable pub createPendingConnection : Purpose → Act Pool
 createPendingConnection why p =
     (do
@@ -249,7 +249,7 @@ infix 40 _to_holds_
 abbrev pub _to_holds_ : ℕ → ℕ → ℕ → Bool
 a to b holds k = a ≤? k && k ≤? b
 
--- kinds 1, 2 and 4 to 11; that the pool is open is canService's to say
+-- what reaches the worker's loop, each turn of which ends in service; that the pool is open is canService's to say
 abbrev pub serviced : Event → Bool
 serviced e = 1 to 2 holds kindNo e || 4 to 11 holds kindNo e
 

@@ -3,7 +3,7 @@ use mathlib.Core.Path.{_≡_, refl, sym, ap, subst, _∙_}
 use mathlib.Core.Bool.{Bool, true, false, false≢true}
 use mathlib.Core.List.{List, [], _∷_, _++_, append-assoc}
 use mathlib.Core.Logic.{_⊎_, inl, inr}
-use Prim.Native.Nat.{ℕ, _+_, _*_, _≤_}
+use Prim.Native.Nat.{ℕ, suc, _+_, _*_, _≤_}
 use native.Mathlib.Omega.{arith}
 use lib.ListN.{length, take, drop, length-append}
 use lib.Seq.{take-at, drop-at}
@@ -23,6 +23,8 @@ use Rattle.definition.specs.declared.Options.{Options}
 use Rattle.definition.specs.declared.Refusal.{Refusal}
 use Rattle.definition.specs.declared.Refusal.the-variants.{OutputShort, Malformed, ClockBack, AfterClose, NumbersSpent, OldRequest, QueueFull, WrongState, WrongTime, OptionsOutOfRange, NotWaiting, AlreadyPinned}
 use Rattle.promises.specs.Proved.{connections, hands-out-free, requests, in-time}
+use Rattle.promises.specs.Progress.{in-time-from}
+use Rattle.promises.specs.Reached.{calm}
 use Rattle.promises.specs.Keeps.{step-written}
 use Rattle.promises.specs.Calls.{stepped}
 use Rattle.slots.specs.View.{SlotPool}
@@ -33,7 +35,7 @@ use Rattle.slots.specs.declared.Outcome.the-variants.{Refused, Accepted}
 use Rattle.refinement.specs.Stands.{Stands, Formed}
 use Rattle.refinement.specs.Formed.{fresh-stands, fresh-formed}
 use Rattle.refinement.specs.RecordRoom.{FewIn, call-few}
-use Rattle.refinement.specs.Rules.{Rules, listsOf, rules-formed, rules-stand, formed-rules}
+use Rattle.refinement.specs.Rules.{listsOf, rules-formed, rules-stand, rules-reached, formed-rules}
 use Rattle.refinement.specs.Places.{one-place}
 use Rattle.printing.specs.Printed.{entriesBytes}
 use Rattle.columns.specs.View.{viewOf}
@@ -42,9 +44,9 @@ use Rattle.pool.specs.declared.Pool.{Pool}
 use Rattle.pool.specs.declared.Made.{Made}
 use Rattle.entry.specs.Entry.{Entered, entered, entry, keeps, refusalIn, recordsIn}
 use Rattle.entry.specs.Tested.{Typed, keeps-exact, entry-short}
-use Rattle.entry.specs.Meaning.{Meant, Done, Lend, calls, left, Ran, shortOrBad, entry-unkept, unkept, entry-back, entry-formed, entry-meant, rules-meant, left-formed, entry-stands, made-runs, making-makes, making-refuses}
+use Rattle.entry.specs.Meaning.{Meant, Done, Lend, calls, left, Ran, shortOrBad, entry-unkept, unkept, entry-back, entry-formed, entry-meant, rules-meant, left-formed, entries-run, entry-stands, made-runs, making-makes, making-refuses}
 use Rattle.replay.specs.Laying.{lay-entries, length-lay, length-numbered}
-use Rattle.demands.specs.Demands.{IsRefused, IsAccepted, Demand1, defined, Demand2For, Demand2, Kept, laidBy, Demand3For, Demand3Calls, InPlace, Demand3Any}
+use Rattle.demands.specs.Demands.{IsRefused, IsAccepted, Demand1, defined, Demand2For, Demand2, Kept, laidBy, Demand3For, Demand3Calls, Demand3Any}
 
 -- ── The twelve numbers ─────────────────────────────────────────────────────────────────────────────────────────────────
 
@@ -138,7 +140,7 @@ pub numbered-append : (w : ℕ) (xs ys : List Record) → numbered w (xs ++ ys) 
 unfolding numbered
 numbered-append w [] ys = let z : w + 0 ≡ w = omega arith in rw z
 numbered-append w (x ∷ xs) ys =
-    let z : w + 1 + length xs ≡ w + (1 + length xs) = omega arith in
+    let z : w + 1 + length xs ≡ w + suc (length xs) = omega arith in
     ap (λ (es : List Entry). Said w x ∷ es) (numbered-append (w + 1) xs ys ∙ rw z)
 
 pub entries-append : (xs ys : List Entry) → entriesBytes (xs ++ ys) ≡ entriesBytes xs ++ entriesBytes ys
@@ -208,6 +210,8 @@ demand-3-any p t k cs =
     let st = rules-stand (viewOf (left cs p)) r in
     record {
       structure = r;
+      pool = entries-run cs p (listsOf (viewOf p)) (rules-stand (viewOf p) (keeps-exact p t .sound k)) f .pool;
       at-most = omega (arith, st .table .total, r .bounded);
       one-place = one-place st;
+      in-time = in-time-from (listsOf (viewOf (left cs p))) (calm _ (rules-reached (viewOf (left cs p)) r));
     }

@@ -19,7 +19,7 @@ use Rattle.definition.specs.Refusals as R
 use Rattle.definition.specs.Refusals.{step, after, run, enoughRoom, make}
 use Rattle.definition.specs.Bytes.{frameOfLine, optionsOfLine}
 use Rattle.definition.specs.Day as Day
-use Rattle.definition.specs.Day.{Entry, Said, RefusedLine, entriesOf, frames, linesOf, numbered, textOf, framesUsed, day}
+use Rattle.definition.specs.Day.{Entry, Said, RefusedLine, entriesOf, frames, linesOf, numbered, textOf, framesUsed, day, badOptions, opened, chosen}
 use Rattle.definition.specs.declared.Options.{Options}
 use Rattle.definition.specs.declared.Refusal.{Refusal}
 use Rattle.definition.specs.declared.Refusal.the-variants.{Malformed, OptionsOutOfRange}
@@ -39,7 +39,7 @@ use Rattle.replay.specs.Calls.{feed, ended}
 use Rattle.replay.specs.Whole.{lines, text-lines, slots-tame}
 use Rattle.replay.specs.Lists.{Lists, Stage, First, Going, Ended, onLists, start, answered}
 use Rattle.replay.specs.Meaning.{Plays, Tied, Says, lines-say}
-use Rattle.replay.specs.Days.{day-whole, day-room}
+use Rattle.replay.specs.Days.{day-whole, day-room, day-begins}
 use Rattle.demands.specs.Demands.{Kept, lineCalls, saidIn, lastPool, Replayed, Runs, EndsAtOnce, Demand3ForDay, Demand3Days}
 use Rattle.demands.specs.Calls.{kept, numbered-append}
 
@@ -114,6 +114,10 @@ tied-stands f p s m t e = go f (subst (Tied f p) e t)
     go phase.Going t = t
     go phase.Ended t = absurd t
 
+at-once : (budget : ℕ) (text : List ℕ) (r : Refusal) → day budget (linesOf text) ≡ badOptions r → EndsAtOnce budget text
+unfolding Day.logOf framesUsed
+at-once budget text r e = record { refusal = r; log = ap (λ (d : Day.Day). textOf (d .log)) e; none-used = ap (λ (d : Day.Day). d .used) e }
+
 module _ (budget : ℕ) (text : List ℕ) where
   -- the machine on slots, at the text's end, plays what the one on lists does
   ends : Says (lines onSlots (begun budget (freshSlots noOptions) (replicate enoughRoom 0)) (linesOf text)) (lines onLists (start budget) (linesOf text))
@@ -130,8 +134,13 @@ module _ (budget : ℕ) (text : List ℕ) where
 
   -- ── A text, by its first line ──────────────────────────────────────────────────────────────────────────────────────────
 
-  pub replayed : Replayed budget text
-  replayed room h = let w = day-room room budget text h in let k = day-whole room budget text w in (w, k .log, k .used)
+  replayed : (room : ℕ) → Replayed budget text room
+  replayed room = record {
+    begins = day-begins room budget text;
+    whole = day-room room budget text;
+    log = λ h. day-whole room budget text h .log;
+    used = λ h. day-whole room budget text h .used;
+  }
 
   module _ (first : List ℕ) (rest : List (List ℕ)) (a : linesOf text ≡ first ∷ rest) (asked : Options) (b : optionsOfLine first ≡ some asked) where
     module _ (c : inRange (withDefaults asked) ≡ true) where
@@ -172,16 +181,18 @@ module _ (budget : ℕ) (text : List ℕ) where
       makes-not = rw c
 
       out-of-range : EndsAtOnce budget text
-      unfolding Day.logOf framesUsed day
-      out-of-range = record { refusal = OptionsOutOfRange; log = rw (a, b, makes-not); none-used = rw (a, b, makes-not) }
+      unfolding day
+      out-of-range =
+          at-once budget text OptionsOutOfRange
+          (ap (day budget) a ∙ ap (λ (x : Option Options). chosen x budget rest) b ∙ ap (λ (x : R.Making). opened x budget rest) makes-not)
 
   malformed : (first : List ℕ) (rest : List (List ℕ)) → linesOf text ≡ first ∷ rest → optionsOfLine first ≡ none → EndsAtOnce budget text
-  unfolding Day.logOf framesUsed day
-  malformed first rest a b = record { refusal = Malformed; log = rw (a, b); none-used = rw (a, b) }
+  unfolding day
+  malformed first rest a b = at-once budget text Malformed (ap (day budget) a ∙ ap (λ (x : Option Options). chosen x budget rest) b)
 
   no-line : linesOf text ≡ [] → EndsAtOnce budget text
-  unfolding Day.logOf framesUsed day
-  no-line a = record { refusal = Malformed; log = rw a; none-used = rw a }
+  unfolding day
+  no-line a = at-once budget text Malformed (ap (day budget) a)
 
   by-options : (first : List ℕ) (rest : List (List ℕ)) → linesOf text ≡ first ∷ rest → (x : Option Options) → optionsOfLine first ≡ x → Runs budget text ⊎ EndsAtOnce budget text
   by-options first rest a none b = inr (malformed first rest a b)

@@ -20,7 +20,7 @@ use Rattle.definition.specs.Day as Day
 use Rattle.definition.specs.Day.{Entry, Said, RefusedLine, frames, linesOf, numbered, textOf, framesUsed}
 use Rattle.definition.specs.declared.Options.{Options}
 use Rattle.definition.specs.declared.Refusal as declared
-use Rattle.promises.specs.Promises.{poolAfter, logOf, standing, Connections, HandsOutFree, Requests, InTime}
+use Rattle.promises.specs.Promises.{poolAfter, logOf, standing, Connections, HandsOutFree, Requests, InTime, InTimeFrom}
 use Rattle.slots.specs.View.{SlotPool}
 use Rattle.slots.specs.declared.Outcome.the-variants.{Accepted}
 use Rattle.refinement.specs.Stands.{Stands}
@@ -37,7 +37,7 @@ use Rattle.first_line.specs.Took.{lineRoom}
 use Rattle.lines.specs.OnSlots.{onSlots}
 use Rattle.session.specs.Code.{opening}
 use Rattle.replay.specs.Calls.{feed, ended}
-use Rattle.replay.specs.Days.{dayIn}
+use Rattle.replay.specs.Days.{Prefix, dayIn}
 
 -- ── 1. Any event, on any pool value, with any output buffer, is accepted or refused ────────────────────────────────────
 
@@ -115,11 +115,12 @@ saidIn (RefusedLine r line ∷ es) = saidIn es
 abbrev pub lastPool : (budget : ℕ) → (text : List ℕ) → SlotPool
 lastPool budget text = ended onSlots (feed onSlots (opening budget) text) .state .pool
 
--- the replay, whose contract speaks of `dayIn`, writes the definition's log wherever there is room for it
-abbrev pub Replayed : (budget : ℕ) → (text : List ℕ) → Type 0
-Replayed budget text =
-    (room : ℕ) → length (Day.logOf budget text) + lineRoom ≤ room
-    → (dayIn room budget text .whole ≡ true) × (dayIn room budget text .took .out ≡ Day.logOf budget text) × (dayIn room budget text .took .state .used ≡ framesUsed budget text)
+-- the replay, whose contract speaks of `dayIn`, writes the definition's log where there is room for it, and else a beginning of it
+pub record Replayed (budget : ℕ) (text : List ℕ) (room : ℕ) : Type 0 where
+  pub begins : Prefix (dayIn room budget text .took .out) (Day.logOf budget text)
+  pub whole : length (Day.logOf budget text) + lineRoom ≤ room → dayIn room budget text .whole ≡ true
+  pub log : dayIn room budget text .whole ≡ true → dayIn room budget text .took .out ≡ Day.logOf budget text
+  pub used : dayIn room budget text .whole ≡ true → dayIn room budget text .took .state .used ≡ framesUsed budget text
 
 -- with good options: the log's records are those of the run, and all that is promised of a run holds of them and of the last pool
 pub record Runs (budget : ℕ) (text : List ℕ) : Type 0 where
@@ -140,17 +141,20 @@ pub record EndsAtOnce (budget : ℕ) (text : List ℕ) : Type 0 where
   pub none-used : framesUsed budget text ≡ 0
 
 pub record Demand3ForDay (budget : ℕ) (text : List ℕ) : Type 0 where
-  pub replayed : Replayed budget text
+  pub replayed : (room : ℕ) → Replayed budget text room
   pub day : Runs budget text ⊎ EndsAtOnce budget text
 
 abbrev pub Demand3Days : Type 0
 Demand3Days = (budget : ℕ) (text : List ℕ) → Demand3ForDay budget text
 
--- (c) Any calls of any pool value that keeps the structure rules, whoever made it: never more than the maximum, and every id in one place.
-pub record InPlace (q : Pool) : Type 0 where
-  pub structure : Rules (viewOf q)
-  pub at-most : D.total (listsOf (viewOf q)) ≤ q .head .options .maximum
-  pub one-place : (i : ℕ) → standing i (listsOf (viewOf q)) ≤ 1
+-- (c) Any calls of any pool value that keeps the structure rules, whoever made it: what they leave keeps them too, stands for what the
+-- definition leaves, has never more connections than its maximum and every id in one place; and whoever it takes on is answered in time.
+pub record GoesOn (p : Pool) (cs : List Lend) : Type 0 where
+  pub structure : Rules (viewOf (left cs p))
+  pub pool : Stands (viewOf (left cs p)) (R.run (calls cs) (listsOf (viewOf p)) .pool)
+  pub at-most : D.total (listsOf (viewOf (left cs p))) ≤ left cs p .head .options .maximum
+  pub one-place : (i : ℕ) → standing i (listsOf (viewOf (left cs p))) ≤ 1
+  pub in-time : InTimeFrom (listsOf (viewOf (left cs p)))
 
 abbrev pub Demand3Any : Type 0
-Demand3Any = (p : Pool) → Typed p → keeps p ≡ true → (cs : List Lend) → InPlace (left cs p)
+Demand3Any = (p : Pool) → Typed p → keeps p ≡ true → (cs : List Lend) → GoesOn p cs

@@ -253,7 +253,7 @@ module _ (e : Calling) (h : Meets e) where
       ∙ calls .ready in
       let z : _≡_ {A = ℕ} 0 1 = cc in omega arith
 
-  -- nor one that serves the first event, and from then on only numbers records
+  -- nor one that is right once, and afterwards does no more than count its records
   pub not-numbering-only :
       ((p : Pool) (b l : List ℕ) → 0 < p .head .serial → e p b l .pool .head .«next_connection_id» ≡ p .head .«next_connection_id») → ⊥
   not-numbering-only n =

@@ -35,7 +35,7 @@ pub fn establish(
     }
 }
 
-// A healthy one: 16; for an abandoned waiter it goes back to the available back with time now.
+// The healthy one that was found is handed out, or put back as if just let go where nobody listens any more.
 pub fn lend(
     head: Head,
     numbers: &mut Numbers,

@@ -80,7 +80,7 @@ pub struct Ending {
     pub written: usize,
 }
 
-// The text's end, where nothing stands after the last newline: no first line at all is one that is malformed.
+// The text's end, where nothing stands after the last newline: an empty text counts as a bad first line.
 pub fn take_end(pace: Pace, out: &mut [u8]) -> Ending
     requires { ⌜ lineRoom ≤ length (now out) ⌝ }
     ensures { λ r. ⌜ Ends pace (now (out .entry)) (now (out .exit)) (r .pace) (r .written) ⌝ }

@@ -19,7 +19,7 @@ use slots::States;
 use slots::Times;
 use slots::Waiters;
 
-// Kinds 1, 2 and 4 to 11.
+// What reaches the worker's loop, each turn of which ends in service.
 fn is_serviced(kind: u8) -> bool
     ensures { λ r. ⌜ r ≡ (1 to 2 holds kind || 4 to 11 holds kind) ⌝ }
 {

@@ -111,6 +111,10 @@ fn minus(a: usize, b: usize) -> usize
 }
 
 impl Pool {
+    pub const DEFAULT_MAX_POOL_SIZE: u32 = options::DEFAULT_MAX_POOL_SIZE;
+
+    pub const DEFAULT_MAX_CONNECTING: u32 = options::DEFAULT_MAX_CONNECTING;
+
     pub fn new(options: Options) -> Made
         ensures { λ r. ⌜ r ≡ making options ⌝ }
     {

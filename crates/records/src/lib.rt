@@ -21,7 +21,7 @@ pub fn put_record(o: &mut [u8], kind: u8, reason: u8, serial: u32, id: u64, othe
     o[3] = 0;
 }
 
-// Record n of an event whose first record has the serial given: written after those already laid down.
+// Record n of an event whose first record has the serial given; its place follows from n.
 pub fn emit(out: &mut [u8], n: u32, serial: u32, kind: u8, reason: u8, id: u64, other: u32)
     requires { ⌜ 16 * (n + 1) ≤ length (now out) ⌝ }
     ensures { λ _. ⌜ now (out .exit) ≡ laid (now (out .entry)) (16 * n) (recordBytes (serialOf (serial + n)) (fields kind reason id other)) ⌝ }

@@ -242,7 +242,7 @@ state-same : {p : SlotPool} {m : Pool} → Stands p m
 state-same {p} {m} st =
     rw (st .alike .state, st .alike .generation, st .alike .nextId, st .table .total, sym (counted (st .table)), sym (waiters-counted (st .alike .queue)))
 
-rules-reached : (p : SlotPool) → Rules p → Reached (listsOf p)
+pub rules-reached : (p : SlotPool) → Rules p → Reached (listsOf p)
 unfolding Stated
 rules-reached p r =
     let st = rules-stand p r in

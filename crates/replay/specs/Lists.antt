@@ -58,7 +58,7 @@ module _ (s : Lists) where
   lineIn (Going p) l = if s .used <? s .budget then answered p (step p (frameOfLine l) enoughRoom) else quiet s
   lineIn Ended l = quiet s
 
-  -- no first line at all is a malformed one
+  -- an empty text counts as a bad first line
   abbrev pub lastIn : Stage → Took Lists Entry
   lastIn First = badly Malformed
   lastIn (Going p) = quiet s

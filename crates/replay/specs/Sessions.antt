@@ -61,6 +61,19 @@ module _ {S O : Type 0} (m : Machine S O) where
   some-part : (room : ℕ) (v : View S) (t : List ℕ) → Partly v t (goOn m room v t)
   some-part room v t = go-part room v t (in-part room v t)
 
+-- a session that was fed from any view, and goes on
+pub fed-more : (v : View Play) (text log : List ℕ) (s : Session) (piece before after : List ℕ) (s' : Session) (n w : ℕ)
+    → feed onSlots v text ≡ record { view = viewIn s; out = log; rest = [] } → Went s piece before after s' n w
+    → feed onSlots v (text ++ take n piece) ≡ record { view = viewIn s'; out = log ++ take w after; rest = [] }
+fed-more v text log s piece before after s' n w e g =
+    let r = g .read in
+    let k : Fed Play ℕ = goOn onSlots (length before) (viewIn s) piece in
+    let o : k .out ≡ take w after = sym (ap (take w) (r .laid) ∙ take-at (k .out) (drop w before) w (sym (r .written))) in
+    feed-append onSlots v text (take n piece) ∙ ap (λ (f : Fed Play ℕ). andThen onSlots f (take n piece)) e
+    ∙ ap (joined log) (some-part onSlots (length before) (viewIn s) piece n (r .within) (r .rest))
+    ∙ ap (λ (x : View Play). record { view = x; out = log ++ k .out; rest = [] }) (sym (r .view))
+    ∙ ap (λ (x : List ℕ). record { view = viewIn s'; out = log ++ x; rest = [] }) o
+
 -- ── Its life ───────────────────────────────────────────────────────────────────────────────────────────────────────────────
 
 -- the text that was read so far, and what was written
@@ -73,15 +86,13 @@ so-far-begin budget s b = record { fed = feed-nil onSlots (opening budget) ∙ a
 pub so-far-more : (budget : ℕ) (text log : List ℕ) (s : Session) (piece before after : List ℕ) (s' : Session) (n w : ℕ) → SoFar budget text log s
     → Went s piece before after s' n w → SoFar budget (text ++ take n piece) (log ++ take w after) s'
 so-far-more budget text log s piece before after s' n w t g =
-    let r = g .read in
-    let k : Fed Play ℕ = goOn onSlots (length before) (viewIn s) piece in
-    let o : k .out ≡ take w after = sym (ap (take w) (r .laid) ∙ take-at (k .out) (drop w before) w (sym (r .written))) in
-    record {
-      fed = feed-append onSlots (opening budget) text (take n piece) ∙ ap (λ (f : Fed Play ℕ). andThen onSlots f (take n piece)) (t .fed)
-          ∙ ap (joined log) (some-part onSlots (length before) (viewIn s) piece n (r .within) (r .rest))
-          ∙ ap (λ (v : View Play). record { view = v; out = log ++ k .out; rest = [] }) (sym (r .view))
-          ∙ ap (λ (x : List ℕ). record { view = viewIn s'; out = log ++ x; rest = [] }) o;
-    }
+    record { fed = fed-more (opening budget) text log s piece before after s' n w (t .fed) g }
+
+-- and with a whole piece, in whatever steps it was read
+pub so-far-piece : (budget : ℕ) (text log : List ℕ) (s : Session) (piece out : List ℕ) (s' : Session) → SoFar budget text log s
+    → feed onSlots (viewIn s) piece ≡ record { view = viewIn s'; out = out; rest = [] } → SoFar budget (text ++ piece) (log ++ out) s'
+so-far-piece budget text log s piece out s' t e =
+    record { fed = feed-append onSlots (opening budget) text piece ∙ ap (λ (f : Fed Play ℕ). andThen onSlots f piece) (t .fed) ∙ ap (joined log) e }
 
 -- all that was written is the log of all that was read
 pub so-far-end : (budget : ℕ) (text log : List ℕ) (s : Session) (before after : List ℕ) (u n : ℕ) → SoFar budget text log s

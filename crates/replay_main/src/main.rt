@@ -2,22 +2,33 @@
 //
 //     replay_main [--budget N] [--used] [FILE]
 //
-// A budget of N takes at most N frames; without one, all are taken. --used tells the frames used on standard error.
-ghost use Prim.Native.Nat.{_≤_};
-ghost use lib.ListN.{length};
-ghost use Rattle.first_line.specs.Took.{lineRoom};
-ghost use Rattle.session.specs.Code.{Ready};
+// A budget of N takes at most N frames; without one, all are taken. --used tells the frames used on standard error, once the whole
+// log is written.
+ghost use mathlib.Core.Bool.{true};
+ghost use mathlib.Core.Path.{_≡_};
+ghost use Rattle.stream.specs.Streams.{Plays};
+use arguments::Asked;
 use libc::STDERR_FILENO;
 use libc::STDIN_FILENO;
-use libc::STDOUT_FILENO;
-use session::Session;
+use stream::Played;
 
-fn put(bytes: &[u8]) -> bool {
-    let good = io::write_all(STDOUT_FILENO, bytes);
-    if !good {
-        os::fail(b"standard output");
+// The day that the arguments ask for: that of the file, or of standard input.
+fn replay(a: Asked) -> Played
+    ensures { λ r. ⌜ (r .good ≡ true → Plays (a .budget) r) ⌝ }
+{
+    if a.file == 0 {
+        return stream::play(STDIN_FILENO, b"standard input", a.budget);
     }
-    good
+    let mut path = io::buffer();
+    let n = os::arg(a.file, &mut path);
+    let fd = os::open_read(&path[..n]);
+    if fd < 0 {
+        os::fail(&path[..n]);
+        return stream::broken();
+    }
+    let r = stream::play(fd, &path[..n], a.budget);
+    libc::close(fd);
+    r
 }
 
 fn tell_used(used: u64) {
@@ -26,71 +37,30 @@ fn tell_used(used: u64) {
     io::write_all(STDERR_FILENO, b"\n");
 }
 
-// The text's end.
-fn end(day: Session, is_used: bool, out: &mut [u8])
-    requires { ⌜ Ready day × (lineRoom ≤ length (now out)) ⌝ }
-{
-    let k = session::finish(day, out);
-    let n = k.written;
-    if put(&out[..n]) {
-        if is_used {
-            tell_used(k.used);
-        }
+fn tell_usage(is_large: bool) {
+    if is_large {
+        io::write_all(
+            STDERR_FILENO,
+            b"replay_main: the budget is too large: 18446744073709551615 is the largest\n",
+        );
+        return;
     }
-}
-
-// The day behind a descriptor: what is read is taken, in as many calls as it needs, and the log goes out after each. A proved
-// loop has to end, so the reads are counted down from a number that no run uses up.
-fn play(fd: i32, name: &[u8], budget: u64, is_used: bool) {
-    let mut buf = io::large_buffer();
-    let mut out = io::large_buffer();
-    let mut day = session::begin(budget);
-    let mut reads = u64::MAX;
-    while reads > 0 {
-        let got = libc::read(fd, &mut buf);
-        if got < 0 {
-            os::fail(name);
-            return;
-        }
-        if got == 0 {
-            end(day, is_used, &mut out);
-            return;
-        }
-        let n = io::count(got, &buf);
-        let mut at: usize = 0;
-        while at < n {
-            let p = session::go_on(day, &buf[at..n], &mut out);
-            day = p.session;
-            let w = p.written;
-            if !put(&out[..w]) {
-                return;
-            }
-            at += p.read;
-        }
-        reads -= 1;
-    }
+    io::write_all(
+        STDERR_FILENO,
+        b"usage: replay_main [--budget N] [--used] [FILE]\n",
+    );
 }
 
 fn main() {
     let a = arguments::read();
     if !a.good {
-        io::write_all(
-            STDERR_FILENO,
-            b"usage: replay_main [--budget N] [--used] [FILE]\n",
-        );
+        tell_usage(a.is_large);
         return;
     }
-    if a.file == 0 {
-        play(STDIN_FILENO, b"standard input", a.budget, a.is_used);
-        return;
+    let r = replay(a);
+    if r.good {
+        if a.is_used {
+            tell_used(r.used);
+        }
     }
-    let mut path = io::buffer();
-    let n = os::arg(a.file, &mut path);
-    let fd = os::open_read(&path[..n]);
-    if fd < 0 {
-        os::fail(&path[..n]);
-        return;
-    }
-    play(fd, &path[..n], a.budget, a.is_used);
-    libc::close(fd);
 }

@@ -136,7 +136,7 @@ pub fn no_head() -> Head
     })
 }
 
-// After the last byte: what is held is a line, and no first line at all is one that is malformed.
+// After the last byte: what is held is a line, and an empty text counts as a bad first one.
 pub fn finish(
     run: Run,
     head: Head,

@@ -110,7 +110,7 @@ pub record World : Type 0 where
 abbrev pub world : SlotPool → List ℕ → Outcome → World
 world p l o = record { pool = p; out = l; outcome = o }
 
--- the records stand at the front of the output; the serial moves past them once, at the event's end
+-- the records begin the output; the serial moves past them once, at the event's end
 abbrev pub accepted : SlotPool → List ℕ → Out SlotPool → World
 accepted p l o = world (withSerial (o .pool) (serialOf (p .serial + length (o .records)))) (lay (p .serial) 0 (o .records) l) (Accepted (length (o .records)))
 

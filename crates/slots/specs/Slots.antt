@@ -51,7 +51,7 @@ closeAt reason i other p = (emit (ConnectionClosed reason (idAt p i) other) >> b
 unfoldable pub leavePending : Act SlotPool
 leavePending p = become (withCounts p (p .total) (p .pendings - 1)) p
 
--- to the back of the available list, available since the time given
+-- slot i is available from that time on, and the last in line
 unfoldable pub shelve : ℕ → ℕ → Act SlotPool
 shelve i t p = become (withAvailable (withTable p (p .ids) (set (p .slots) i (withState checkedInNo t (slotAt p i)))) (set (p .available) (p .availables) i) (p .availables + 1)) p
 
@@ -158,7 +158,7 @@ prune (suc k) p =
 unfoldable pub removePerished : Act SlotPool
 removePerished p = prune (p .availables) p
 
--- up to k times: one more, while total is below the minimum and pending below max connecting
+-- one more, k times at most, until the minimum is there or no more may be pending
 unfoldable pub fillUp : ℕ → Act SlotPool
 fillUp zero p = nothing p
 fillUp (suc k) p =

@@ -140,7 +140,7 @@ fn clear_ready(
     }
 }
 
-// On timeout record 8 first, whatever the state. Generation plus 1, Paused with the new cause.
+// Who holds a connection is warned before all else. Whether the pool was Ready is asked before it is paused.
 pub fn clear(
     head: Head,
     numbers: &mut Numbers,

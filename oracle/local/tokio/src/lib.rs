@@ -3,6 +3,7 @@
 
 use std::convert::Infallible;
 
+pub mod counts;
 pub mod io;
 pub mod sync;
 pub mod time;
@@ -18,8 +19,20 @@ pub enum Chosen<A, B, C = Infallible, D = Infallible> {
 
 /// The biased `select!` for two or four branches. A branch whose value does not match its pattern is
 /// left out until the next `select!`; the futures are dropped before a handler runs.
+///
+/// The worker's loop is known by its first branch. Expanded there, the macro sees the worker's own
+/// fields, and notes the counts whenever the loop comes round.
 #[macro_export]
 macro_rules! select {
+    (biased; Some($request:ident) = $worker:ident.management_receiver.recv() => $($rest:tt)+) => {{
+        $crate::counts::script_note($crate::counts::Counts {
+            total: $worker.total_connection_count,
+            pending: $worker.pending_connection_count,
+            available: $worker.available_connections.len(),
+            waiting: $worker.wait_queue.len(),
+        });
+        $crate::select!(@read [] Some($request) = $worker.management_receiver.recv() => $($rest)+)
+    }};
     (biased; $($rest:tt)+) => { $crate::select!(@read [] $($rest)+) };
 
     (@read [$($branches:tt)*] else => $otherwise:expr $(,)?) => {

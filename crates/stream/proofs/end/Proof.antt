@@ -1,13 +1,14 @@
 use native.Mathlib.Omega.{arith}
+use denote.Ref.{now}
 use lib.ListN.{length-take}
+use Rattle.stream.specs.Streams.{ends}
 use borrow.Author.Needs.{needs}
-use Rattle.replay_main.proofs.end.Statement.{statement}
-use Rattle.replay_main.proofs.end.Tie as tie
-use Rattle.replay_main.proofs.end.Reads as reads
-use Rattle.replay_main.proofs.end.Lts as lts
-use Rattle.replay_main.proofs.put.Reads as put-reads
-use Rattle.replay_main.proofs.tell_used.Reads as tell-used-reads
+use Rattle.stream.proofs.end.Statement.{statement}
+use Rattle.stream.proofs.end.Tie as tie
+use Rattle.stream.proofs.end.Reads as reads
+use Rattle.stream.proofs.end.Lts as lts
 use Rattle.session.proofs.finish.Reads as finish-reads
+use Rattle.stream.proofs.put.Reads as put-reads
 
 finish-requires : tie.Need-finish-requires
 finish-requires c κs = search needs
@@ -24,26 +25,16 @@ slice-aggregate-put c =
 put-requires : tie.Need-put-requires
 put-requires c κs = search needs
 
-tell-used-requires : tie.Need-tell-used-requires
-tell-used-requires c κs = search needs
-
 same-length : tie.Need-same-length
 same-length c = search needs
 
 returns : tie.Need-returns
-returns c = search needs
-
-same-length-2 : tie.Need-same-length-2
-same-length-2 c = search needs
-
-returns-2 : tie.Need-returns-2
-returns-2 c = search needs
-
-same-length-3 : tie.Need-same-length-3
-same-length-3 c = search needs
-
-returns-3 : tie.Need-returns-3
-returns-3 c = search needs
+returns c = λ g.
+    let d : tie.After-finish = c .before .before .before .before in
+    let a = d .before .before .before .args in
+    let k = d .finish in
+    let p = c .put in
+    ends (a .day) (a .read) (a .sent) (now (a .out)) (k .last .1 .0) (p .result .good) (k .result .used) (k .result .written) (p .result .count) (k .ensures) (p .ensures g)
 
 pub end-spec : {M : Type 1} → statement M
 end-spec =
@@ -53,10 +44,5 @@ end-spec =
     slice-reshare-prefix-put
     slice-aggregate-put
     put-requires
-    tell-used-requires
     same-length
-    returns
-    same-length-2
-    returns-2
-    same-length-3
-    returns-3)
+    returns)

@@ -1,4 +1,5 @@
 pub mod Entry
 pub mod Tested
 pub mod Meaning
+pub mod Queue
 pub mod Shut

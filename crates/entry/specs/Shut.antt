@@ -2,10 +2,9 @@
 use mathlib.Core.Path.{_≡_, refl, sym, ap, subst, _∙_}
 use mathlib.Core.Bool.{true, false, true≢false}
 use mathlib.Core.List.{List, [], _∷_, map}
-use mathlib.Core.Option.{Option, none, some}
 use Prim.Native.Nat.{ℕ, _+_, _≤_, _<_}
 use native.Mathlib.Omega.{arith}
-use lib.ListN.{length, getD, replicate, length-replicate, length-append, length-map}
+use lib.ListN.{length, getD, replicate, length-replicate}
 use Rattle.definition.specs.Booleans.{by-bool}
 use Rattle.definition.specs.Words.{if_then_else_}
 use Rattle.definition.specs.Pool as D
@@ -15,8 +14,6 @@ use Rattle.definition.specs.Steps.{Out, _>>_, leaveLent, leavePending, shelve, 
 use Rattle.definition.specs.Refusals as R
 use Rattle.definition.specs.Refusals.{first, tests, outcome, after, run, enoughRoom}
 use Rattle.definition.specs.Bytes.{serialOf, at4, at8, frameOfFields, frameOf, recordBytes}
-use Rattle.definition.specs.Log.{answered}
-use Rattle.definition.specs.Sentences.{front-answered, service-once}
 use Rattle.definition.specs.Cases.{frame, called}
 use Rattle.definition.specs.declared.Options.{Options}
 use Rattle.definition.specs.declared.Event.the-variants.{CheckOut, MarkAsReady, FillPool}
@@ -39,6 +36,7 @@ use Rattle.entry.specs.Entry.{Entered, keeps, entry}
 use Rattle.entry.specs.Tested.{Typed, keeps-exact}
 use Rattle.entry.specs.Meaning.{Done, entry-meant, entry-formed, Meant, entry-unkept, rules-meant, formed-typed, Lend, left, Ran, entries-run, counts-meant}
 use Rattle.entry.specs.Meaning as M
+use Rattle.entry.specs.Queue.{answersAll, call-takes}
 use Rattle.pool.specs.declared.Pool.{Pool}
 use Rattle.pool.specs.declared.Counts.{Counts}
 
@@ -180,22 +178,7 @@ busy-filled : Done busy room (entry busy fill room) (outcome (Good FillPool 1) b
 busy-filled = entry-meant busy busyLists busy-stands (busy-ran .formed) fill room .accepts _
     (ap (λ (f : Frame). R.step busyLists f (length room)) fill-frame ∙ ap (R.step busyLists (Good FillPool 1)) room-long ∙ busy-lists .fills)
 
--- ── A fill takes one waiter at most ────────────────────────────────────────────────────────────────────────────────────
-
--- the service stage does
-service-takes : (m : D.Pool) → length (m .waiting) ≤ length (service m .pool .waiting) + 1
-service-takes m =
-    let l : length (m .waiting) ≡ length (answered (service m .records)) + length (service m .pool .waiting) =
-    simp (length-append, length-map) at (ap length (front-answered m)) in
-    omega (arith, l, service-once m)
-
-fill-takes : (m : D.Pool) (now room : ℕ) → length (m .waiting) ≤ length (after m (R.step m (Good FillPool now) room) .pool .waiting) + 1
-unfolding R.step outcome event handle _>>_ if_then_else_
-fill-takes m now room = go (first (tests m (Good FillPool now) room))
-  where
-    go : (r : Option Refusal) → length (m .waiting) ≤ length (after m (R.verdict r (outcome (Good FillPool now) m)) .pool .waiting) + 1
-    go none = service-takes (D.withClock m now)
-    go (some x) = omega arith
+-- ── A call takes one waiter at most ────────────────────────────────────────────────────────────────────────────────────
 
 -- as many wait as in the lists that are meant
 waiting-meant : (p : Pool) (m : D.Pool) → Stands (viewOf p) m → (l : List ℕ) (w : Entered) (r : R.Result) → Meant p l w r
@@ -203,9 +186,9 @@ waiting-meant : (p : Pool) (m : D.Pool) → Stands (viewOf p) m → (l : List �
 waiting-meant p m st l w (R.Refused x) k = ap (λ (v : Entered). v .pool .head .«waiting_count») (k .refuses x refl) ∙ ap (λ (c : Counts). c .waiting) (counts-meant p m st)
 waiting-meant p m st l w (R.Accepted o) k = ap (λ (c : Counts). c .waiting) (counts-meant (w .pool) (o .pool) (k .accepts o refl .pool))
 
-entry-takes : (p : Pool) → Typed p → (b l : List ℕ) (now : ℕ) → frameOf b ≡ Good FillPool now
+entry-takes : (p : Pool) → Typed p → (b l : List ℕ) → answersAll (frameOf b) ≡ false
     → p .head .«waiting_count» ≤ entry p b l .pool .head .«waiting_count» + 1
-entry-takes p t b l now f = by-bool (keeps p) (λ k. kept (keeps-exact p t .sound k)) broken
+entry-takes p t b l f = by-bool (keeps p) (λ k. kept (keeps-exact p t .sound k)) broken
   where
     kept : Rules (viewOf p) → p .head .«waiting_count» ≤ entry p b l .pool .head .«waiting_count» + 1
     kept r =
@@ -213,7 +196,7 @@ entry-takes p t b l now f = by-bool (keeps p) (λ k. kept (keeps-exact p t .soun
         let st = rules-stand (viewOf p) r in
         let a : p .head .«waiting_count» ≡ length (m .waiting) = ap (λ (c : Counts). c .waiting) (counts-meant p m st) in
         let z = waiting-meant p m st l (entry p b l) (R.step m (frameOf b) (length l)) (rules-meant p r b l) in
-        let one : length (m .waiting) ≤ length (after m (R.step m (frameOf b) (length l)) .pool .waiting) + 1 = rw f (fill-takes m now (length l)) in
+        let one = call-takes m (frameOf b) (length l) f in
         omega (arith, a, z, one)
 
     broken : keeps p ≡ false → p .head .«waiting_count» ≤ entry p b l .pool .head .«waiting_count» + 1
@@ -284,12 +267,11 @@ module _ (e : Calling) (h : Meets e) where
   pub not-inventing : (c : ℕ) → ((p : Pool) (b l : List ℕ) (n : ℕ) → e p b l .outcome ≡ Accepted n → n ≡ c) → ⊥
   not-inventing c n = omega (arith, n start ready room 1 says-one, n next asked room 2 says-two)
 
-  -- a fill takes one waiter at most, out of any pool value;
-  pub serves-once : (p : Pool) → Typed p → (b l : List ℕ) (now : ℕ) → frameOf b ≡ Good FillPool now
-      → p .head .«waiting_count» ≤ e p b l .pool .head .«waiting_count» + 1
-  serves-once p t b l now f = rw (h p t b l) (entry-takes p t b l now f)
+  -- one waiter at most is taken out of any pool value by any bytes, save by a clear or a close;
+  pub serves-once : (p : Pool) → Typed p → (b l : List ℕ) → answersAll (frameOf b) ≡ false → p .head .«waiting_count» ≤ e p b l .pool .head .«waiting_count» + 1
+  serves-once p t b l f = rw (h p t b l) (entry-takes p t b l f)
 
-  -- so it is not one that serves twice: where two wait and two are available, that would take both from the queue
+  -- so it is not one that serves twice: a fill, where two wait and two are available, would take both from the queue
   pub not-serving-twice :
       ((p : Pool) (l : List ℕ) (n : ℕ) → p .head .status .state ≡ Ready → 2 ≤ p .head .«available_count» → 2 ≤ p .head .«waiting_count»
       → e p fill l .outcome ≡ Accepted n → e p fill l .pool .head .«waiting_count» + 2 ≤ p .head .«waiting_count») → ⊥
@@ -299,4 +281,4 @@ module _ (e : Calling) (h : Meets e) where
       let a : busy .head .«available_count» ≡ 2 = ap (λ (c : Counts). c .available) c ∙ busy-lists .available in
       let w : busy .head .«waiting_count» ≡ 2 = ap (λ (c : Counts). c .waiting) c ∙ busy-lists .waiting in
       let o = ap (λ (w : Entered). w .outcome) (h busy t fill room) ∙ busy-filled .outcome in
-      omega (arith, serves-once busy t fill room 1 fill-frame, n busy room _ (busy-stands .alike .state ∙ busy-lists .ready) (omega (arith, a)) (omega (arith, w)) o)
+      omega (arith, serves-once busy t fill room (ap answersAll fill-frame), n busy room _ (busy-stands .alike .state ∙ busy-lists .ready) (omega (arith, a)) (omega (arith, w)) o)

@@ -22,10 +22,11 @@ fn put(before: u64, bytes: &[u8]) -> Sent
 {
     let n = bytes.len() as u64;
     if n <= u64::MAX - before {
+        let count = before + n;
         if io::write_all(STDOUT_FILENO, bytes) {
             return Sent {
                 good: true,
-                count: before + n,
+                count: count,
             };
         }
     }

@@ -108,9 +108,11 @@ loop-less c = search needs
 loop-again : tie.Need-loop-again Inv-loop μ-loop
 loop-again c =
     let h : tie.At-loop Inv-loop μ-loop = c .before .before .before .before .before .before in
-    let d = is-digit (byte h) (c .before .before .before .if1 .left) (c .before .before .if2 .left) in
-    (omega arith, omega (arith, c .if4 .left),
-    h .loop .inv .2 ∙ digit-more (word h) (h .loop .v) (h .loop .i) (c .before .before .before .before .before .loop-test .taken) d)
+    let d = is-digit (byte h) (c .before .before .before .if1 .left) (c .before .before .if2 .left) in (
+      omega arith,
+      omega (arith, c .if4 .left),
+      h .loop .inv .2 ∙ digit-more (word h) (h .loop .v) (h .loop .i) (c .before .before .before .before .before .loop-test .taken) d,
+    )
 
 no-number-requires-5 : tie.Need-no-number-requires-5 Inv-loop μ-loop
 no-number-requires-5 c κs = search needs

@@ -10,11 +10,11 @@ use Rattle.os.proofs.fail.Reads as fail-reads
 sub-if1 : tie.Need-sub-if1
 sub-if1 c = search needs
 
+add-count : tie.Need-add-count
+add-count c = search needs
+
 write-all-requires : tie.Need-write-all-requires
 write-all-requires c κs = search needs
-
-add-t9 : tie.Need-add-t9
-add-t9 c = search needs
 
 returns : tie.Need-returns
 returns c = search needs
@@ -33,8 +33,8 @@ put-spec =
     tie.close
     (tie.spec
     sub-if1
+    add-count
     write-all-requires
-    add-t9
     returns
     slice-aggregate-fail
     fail-requires

@@ -11,7 +11,7 @@ use libc::STDOUT_FILENO;
 use session::Session;
 
 // Where `good`, all went out, and so many bytes did in all.
-pub struct Sent {
+struct Sent {
     pub good: bool,
     pub count: u64,
 }
@@ -38,7 +38,7 @@ fn put(before: u64, bytes: &[u8]) -> Sent
 }
 
 // What a piece of the text leaves.
-pub struct Drained {
+struct Drained {
     pub good: bool,
     pub session: Session,
     pub sent: u64,

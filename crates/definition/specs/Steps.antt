@@ -205,7 +205,7 @@ canService p =
     isReady (p .state) && (some? (p .available) || total p <? p .options .maximum && length (p .pending) <? p .options .connecting)
 
 -- One is made for the waiter, and the answer names it. The Rust tests the maximum here; there is always room below it (crate
--- promises, Bound), so no test is left.
+-- promises, Tested), so no test is left.
 unfoldable pub establish : Waiter → Act Pool
 establish w p = (createPendingConnection Request >> emit (told (Establishing (p .nextId)) w)) p
 

@@ -12,7 +12,7 @@ use Rattle.definition.specs.Booleans.{by-bool}
 use Rattle.definition.specs.Limits.{limits-of}
 use Rattle.definition.specs.Words.{if_then_else_, _<?_}
 use Rattle.definition.specs.Pool as D
-use Rattle.definition.specs.Pool.{fresh, withDefaults, inRange}
+use Rattle.definition.specs.Pool.{Waiter, fresh, withDefaults, inRange}
 use Rattle.definition.specs.Records.{Record, recordLength, fieldsOf}
 use Rattle.definition.specs.Steps.{Out, _>>_}
 use Rattle.definition.specs.Refusals as R
@@ -22,6 +22,8 @@ use Rattle.definition.specs.Day.{Entry, Said, entryBytes, numbered}
 use Rattle.definition.specs.declared.Options.{Options}
 use Rattle.definition.specs.declared.Refusal.{Refusal}
 use Rattle.definition.specs.declared.Refusal.the-variants.{OutputShort, Malformed, ClockBack, AfterClose, NumbersSpent, OldRequest, QueueFull, WrongState, WrongTime, OptionsOutOfRange, NotWaiting, AlreadyPinned}
+use Rattle.definition.specs.Log.{answered, ids}
+use Rattle.promises.specs.Promises.{Placed, InOrder}
 use Rattle.promises.specs.Proved.{connections, hands-out-free, requests, in-time}
 use Rattle.promises.specs.Progress.{in-time-from}
 use Rattle.promises.specs.Reached.{calm}
@@ -35,8 +37,8 @@ use Rattle.slots.specs.declared.Outcome.the-variants.{Refused, Accepted}
 use Rattle.refinement.specs.Stands.{Stands, Formed}
 use Rattle.refinement.specs.Formed.{fresh-stands, fresh-formed}
 use Rattle.refinement.specs.RecordRoom.{FewIn, call-few}
-use Rattle.refinement.specs.Rules.{listsOf, rules-formed, rules-stand, rules-reached, formed-rules}
-use Rattle.refinement.specs.Places.{one-place}
+use Rattle.refinement.specs.Rules.{Rules, listsOf, rules-formed, rules-stand, rules-reached, formed-rules}
+use Rattle.refinement.specs.Places.{one-place, same-places, same-total, same-waiting}
 use Rattle.printing.specs.Printed.{entriesBytes}
 use Rattle.columns.specs.View.{viewOf}
 use Rattle.pool.specs.Making.{making, freshPool}
@@ -178,12 +180,33 @@ all-laid (c ∷ cs) p m st f =
 
 -- ── Any calls of a made pool ───────────────────────────────────────────────────────────────────────────────────────────
 
-pub kept : (o : Options) → inRange o ≡ true → (cs : List R.Call) (q : SlotPool) → Stands q (run cs (fresh o) .pool) → Kept o cs q
-kept o h cs q st = record {
-  pool = st;
-  connections = connections o (limits-of o h .minimum) cs;
+-- what holds of lists that a pool stands for holds of its own
+placed-same : {q : SlotPool} {m n : D.Pool} {most : ℕ} {log : List Record} → Stands q m → Stands q n → Placed most log m → Placed most log n
+placed-same a b c =
+    record {
+      balance = λ i. omega (arith, c .balance i, same-places a b i);
+      once = c .once;
+      open-ones-stand = λ i x y. omega (arith, c .open-ones-stand i x y, same-places a b i);
+      stands-once = λ i x. omega (arith, c .stands-once i (omega (arith, x, same-places a b i)), same-places a b i);
+      standing-was-created = λ i x. c .standing-was-created i (omega (arith, x, same-places a b i));
+      standing-is-open = λ i x. c .standing-is-open i (omega (arith, x, same-places a b i));
+      at-most = omega (arith, c .at-most, same-total a b);
+    }
+
+ordered-same : {q : SlotPool} {m n : D.Pool} {taken : List ℕ} {log : List Record} → Stands q m → Stands q n → InOrder taken log m → InOrder taken log n
+ordered-same {log = log} a b c =
+    record {
+      in-order = c .in-order ∙ ap (λ (l : List Waiter). answered log ++ ids l) (same-waiting a b);
+      accepted-rise = c .accepted-rise;
+      answered-rise = c .answered-rise;
+      answered-once = c .answered-once;
+    }
+
+pub kept : (o : Options) → inRange o ≡ true → (cs : List R.Call) (q : SlotPool) → Stands q (run cs (fresh o) .pool) → Rules q → Kept o cs (listsOf q)
+kept o h cs q st r = record {
+  connections = placed-same st (rules-stand q r) (connections o (limits-of o h .minimum) cs);
   hands-out-free = hands-out-free o;
-  requests = requests o cs;
+  requests = ordered-same st (rules-stand q r) (requests o cs);
   in-time = in-time o;
 }
 
@@ -196,8 +219,10 @@ demand-3-calls asked h cs =
     let o = withDefaults asked in
     let k = made-in-range asked h in
     let same : making asked .pool ≡ freshPool o = ap (λ (w : Made). w .pool) (making-makes asked k) in
+    let r = formed-rules (viewOf (left cs (making asked .pool))) (made-runs asked k cs .formed) in
     record {
-      kept = kept o k (calls cs) _ (made-runs asked k cs .pool);
+      structure = r;
+      kept = kept o k (calls cs) _ (made-runs asked k cs .pool) r;
       log = ap (laidBy cs) same ∙ all-laid cs (freshPool o) (fresh o) (fresh-stands o k) (fresh-formed o k);
     }
 

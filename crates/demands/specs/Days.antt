@@ -26,13 +26,20 @@ use Rattle.definition.specs.declared.Refusal.the-variants.{Malformed, OptionsOu
 use Rattle.promises.specs.Keeps.{step-written}
 use Rattle.promises.specs.Calls.{stepped}
 use Rattle.slots.specs.View.{SlotPool}
+use Rattle.slots.specs.Call.{call}
 use Rattle.refinement.specs.Alike.{freshSlots}
-use Rattle.refinement.specs.Stands.{Stands}
+use Rattle.refinement.specs.Stands.{Stands, Formed}
+use Rattle.refinement.specs.Formed.{fresh-formed, call-formed}
+use Rattle.refinement.specs.Rules.{Rules, formed-rules}
 use Rattle.first_line.specs.declared.Phase.{Phase}
 use Rattle.first_line.specs.declared.Phase.the-variants as phase
 use Rattle.first_line.specs.Took.{Took, quiet, lineRoom}
+use Rattle.first_line.specs.OnSlots as O
 use Rattle.first_line.specs.OnSlots.{Play}
-use Rattle.lines.specs.OnSlots.{onSlots}
+use Rattle.first_line.specs.Code.{Able}
+use Rattle.frame_lines.specs.OnSlots as F
+use Rattle.lines.specs.OnSlots as P
+use Rattle.lines.specs.OnSlots.{onSlots, lineSlots, lastSlots}
 use Rattle.runs.specs.Code.{noOptions}
 use Rattle.session.specs.Code.{opening, begun}
 use Rattle.replay.specs.Calls.{feed, ended}
@@ -119,6 +126,49 @@ at-once : (budget : ℕ) (text : List ℕ) (r : Refusal) → day budget (linesOf
 unfolding Day.logOf framesUsed
 at-once budget text r e = record { refusal = r; log = ap (λ (d : Day.Day). textOf (d .log)) e; none-used = ap (λ (d : Day.Day). d .used) e }
 
+-- ── And it keeps the rules ─────────────────────────────────────────────────────────────────────────────────────────────
+
+abbrev AbleIn : Play → Type 0
+AbleIn s = Able (s .phase) (s .pool)
+
+options-able : (s : Play) (x : Option Options) → AbleIn (O.options s x .state)
+unfolding if_then_else_
+options-able s none = tt
+options-able s (some asked) = go (inRange (withDefaults asked)) refl
+  where
+    go : (b : Bool) → inRange (withDefaults asked) ≡ b → AbleIn ((if b then O.ready s (withDefaults asked) else O.badly s OptionsOutOfRange) .state)
+    go true e = fresh-formed (withDefaults asked) e
+    go false e = tt
+
+line-able : (s : Play) (f : Phase) → s .phase ≡ f → Able f (s .pool) → (l : List ℕ) → AbleIn (P.lineIn s f l .state)
+unfolding if_then_else_
+line-able s phase.First q a l = options-able s (optionsOfLine l)
+line-able s phase.Going q a l = go (s .used <? s .budget)
+  where
+    go : (b : Bool) → AbleIn ((if b then F.answered s (call (s .pool) (s .scratch) (frameOfLine l)) else quiet s) .state)
+    go true = call-formed (s .pool) (s .scratch) (frameOfLine l) a
+    go false = subst (λ (f : Phase). Able f (s .pool)) (sym q) a
+line-able s phase.Ended q a l = subst (λ (f : Phase). Able f (s .pool)) (sym q) a
+
+last-able : (s : Play) (f : Phase) → s .phase ≡ f → Able f (s .pool) → AbleIn (P.lastIn s f .state)
+last-able s phase.First q a = tt
+last-able s phase.Going q a = subst (λ (f : Phase). Able f (s .pool)) (sym q) a
+last-able s phase.Ended q a = subst (λ (f : Phase). Able f (s .pool)) (sym q) a
+
+lines-able : (ls : List (List ℕ)) (s : Play) → AbleIn s → AbleIn (lines onSlots s ls .state)
+unfolding lines lineSlots lastSlots
+lines-able [] s a = last-able s (s .phase) refl a
+lines-able (l ∷ ls) s a = lines-able ls (lineSlots s l .state) (line-able s (s .phase) refl a l)
+
+-- under way, it is formed
+tied-formed : (f : Phase) (p : SlotPool) (s : Stage) (m : D.Pool) → Tied f p s → s ≡ Going m → Able f p → Formed p
+tied-formed f p s m t e a = go f (subst (Tied f p) e t) a
+  where
+    go : (f : Phase) → Tied f p (Going m) → Able f p → Formed p
+    go phase.First t a = absurd t
+    go phase.Going t a = a
+    go phase.Ended t a = absurd t
+
 module _ (budget : ℕ) (text : List ℕ) where
   -- the machine on slots, at the text's end, plays what the one on lists does
   ends : Says (lines onSlots (begun budget (freshSlots noOptions) (replicate enoughRoom 0)) (linesOf text)) (lines onLists (start budget) (linesOf text))
@@ -132,6 +182,12 @@ module _ (budget : ℕ) (text : List ℕ) where
   last-stands m e =
       let s = lines onSlots (begun budget (freshSlots noOptions) (replicate enoughRoom 0)) (linesOf text) .state in
       subst (λ (q : SlotPool). Stands q m) (sym last-lines) (tied-stands (s .phase) (s .pool) _ m (ends .plays .stage) e)
+
+  last-rules : (m : D.Pool) → lines onLists (start budget) (linesOf text) .state .stage ≡ Going m → Rules (lastPool budget text)
+  last-rules m e =
+      let s₀ = begun budget (freshSlots noOptions) (replicate enoughRoom 0) in
+      let s = lines onSlots s₀ (linesOf text) .state in
+      subst Rules (sym last-lines) (formed-rules (s .pool) (tied-formed (s .phase) (s .pool) _ m (ends .plays .stage) e (lines-able (linesOf text) s₀ tt)))
 
   -- ── A text, by its first line ──────────────────────────────────────────────────────────────────────────────────────────
 
@@ -173,7 +229,8 @@ module _ (budget : ℕ) (text : List ℕ) where
         in-range = c;
         log = ap textOf day-is;
         records = frames-said (take budget rest) (fresh o) 2;
-        kept = kept o c (lineCalls (take budget rest)) (lastPool budget text) (last-stands _ stage-is);
+        structure = last-rules _ stage-is;
+        kept = kept o c (lineCalls (take budget rest)) (lastPool budget text) (last-stands _ stage-is) (last-rules _ stage-is);
       }
 
     module _ (c : inRange (withDefaults asked) ≡ false) where

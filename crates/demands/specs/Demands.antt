@@ -20,7 +20,8 @@ use Rattle.definition.specs.Day as Day
 use Rattle.definition.specs.Day.{Entry, Said, RefusedLine, frames, linesOf, numbered, textOf, framesUsed}
 use Rattle.definition.specs.declared.Options.{Options}
 use Rattle.definition.specs.declared.Refusal as declared
-use Rattle.promises.specs.Promises.{poolAfter, logOf, standing, Connections, HandsOutFree, Requests, InTime, InTimeFrom}
+use Rattle.promises.specs.Promises.{logOf, standing, Placed, HandsOutFree, InOrder, InTime, InTimeFrom}
+use Rattle.promises.specs.Runs.{accepted}
 use Rattle.slots.specs.View.{SlotPool}
 use Rattle.slots.specs.declared.Outcome.the-variants.{Accepted}
 use Rattle.refinement.specs.Stands.{Stands}
@@ -80,14 +81,13 @@ Demand2 = (p : Pool) → Typed p → (bytes out : List ℕ) → Demand2For p byt
 
 -- ── 3. Over any events ─────────────────────────────────────────────────────────────────────────────────────────────────
 
--- What is promised of calls to a fresh pool with options o, and of the pool q that they leave. It stands for the lists that the definition
--- leaves; of these and of the records: each connection created and not yet closed is in exactly one place, and there are never more than
--- the maximum; what is handed out is free; requests are answered in order of arrival, once; and in time.
-pub record Kept (o : Options) (cs : List R.Call) (q : SlotPool) : Type 0 where
-  pub pool : Stands q (poolAfter o cs)
-  pub connections : Connections o cs
+-- What is promised of calls to a fresh pool with options o, of all records that they give, and of the lists m of the pool that they leave:
+-- each connection created and not yet closed is in exactly one place, and there are never more than the maximum; what is handed out is
+-- free; requests are answered in order of arrival, once; and in time.
+pub record Kept (o : Options) (cs : List R.Call) (m : D.Pool) : Type 0 where
+  pub connections : Placed (o .maximum) (logOf o cs) m
   pub hands-out-free : HandsOutFree o
-  pub requests : Requests o cs
+  pub requests : InOrder (accepted (fresh o) cs) (logOf o cs) m
   pub in-time : InTime o
 
 -- (a) Any calls of any made pool. `left cs p` is the pool that the code leaves; `laidBy` are the bytes of all records that it laid down.
@@ -98,7 +98,8 @@ laidBy (c ∷ cs) p =
     take (recordLength * recordsIn (w .outcome)) (w .out) ++ laidBy cs (w .pool)
 
 pub record Demand3For (asked : Options) (cs : List Lend) : Type 0 where
-  pub kept : Kept (withDefaults asked) (calls cs) (viewOf (left cs (making asked .pool)))
+  pub structure : Rules (viewOf (left cs (making asked .pool)))
+  pub kept : Kept (withDefaults asked) (calls cs) (listsOf (viewOf (left cs (making asked .pool))))
   pub log : laidBy cs (making asked .pool) ≡ entriesBytes (numbered 0 (logOf (withDefaults asked) (calls cs)))
 
 abbrev pub Demand3Calls : Type 0
@@ -143,7 +144,8 @@ pub record Runs (budget : ℕ) (text : List ℕ) : Type 0 where
   pub in-range : inRange (withDefaults asked) ≡ true
   pub log : Day.logOf budget text ≡ textOf (frames (fresh (withDefaults asked)) 2 (take budget rest))
   pub records : saidIn (frames (fresh (withDefaults asked)) 2 (take budget rest)) ≡ numbered 0 (logOf (withDefaults asked) (lineCalls (take budget rest)))
-  pub kept : Kept (withDefaults asked) (lineCalls (take budget rest)) (lastPool budget text)
+  pub structure : Rules (lastPool budget text)
+  pub kept : Kept (withDefaults asked) (lineCalls (take budget rest)) (listsOf (lastPool budget text))
 
 -- without: the log is the one line that says so
 pub record EndsAtOnce (budget : ℕ) (text : List ℕ) : Type 0 where

@@ -6,7 +6,7 @@ use mathlib.Core.List.{List, [], _∷_, _++_, List·Memᴰ}
 use mathlib.Core.Logic.{_⊎_}
 use Prim.Native.Nat.{ℕ, suc, _+_, _*_, _≤_}
 use lib.ListN.{length}
-use Rattle.definition.specs.Pool.{Pool, fresh, slotCount, withDefaults, withClock}
+use Rattle.definition.specs.Pool.{Pool, fresh, slotCount, total, withDefaults, withClock}
 use Rattle.definition.specs.Records.{Record, Replied, Pooled, recordLength}
 use Rattle.definition.specs.Steps.{Out, handle, service}
 use Rattle.definition.specs.Refusals.{first, tests, Call, after, run, enoughRoom, roomRecords, Made, make}
@@ -36,20 +36,24 @@ pub record Fresh (asked : Options) (p : Pool) : Type 0 where
 abbrev pub MadeFresh : Type 0
 MadeFresh = (asked : Options) (p : Pool) → make asked ≡ Made p → Fresh asked p
 
--- (a) Connections: read off the records, those created and not yet closed are each in exactly one of available, lent and pending, once.
-pub record Connections (o : Options) (calls : List Call) : Type 0 where
+-- (a) Connections: of a log and the pool that it leaves, those created and not yet closed are each in exactly one of available, lent and
+-- pending, once.
+pub record Placed (maximum : ℕ) (log : List Record) (p : Pool) : Type 0 where
   -- a connection is created as often as it is closed and stands in the lists
-  pub balance : (i : ℕ) → often i (created (logOf o calls)) ≡ often i (closed (logOf o calls)) + standing i (poolAfter o calls)
+  pub balance : (i : ℕ) → often i (created log) ≡ often i (closed log) + standing i p
   -- none is created twice
-  pub once : (i : ℕ) → often i (created (logOf o calls)) ≤ 1
+  pub once : (i : ℕ) → often i (created log) ≤ 1
   -- so: one that was created and isn't closed stands in the lists exactly once,
-  pub open-ones-stand : (i : ℕ) → 1 ≤ often i (created (logOf o calls)) → often i (closed (logOf o calls)) ≡ 0 → standing i (poolAfter o calls) ≡ 1
+  pub open-ones-stand : (i : ℕ) → 1 ≤ often i (created log) → often i (closed log) ≡ 0 → standing i p ≡ 1
   -- and one that stands in the lists stands there once, was created, and isn't closed
-  pub stands-once : (i : ℕ) → 1 ≤ standing i (poolAfter o calls) → standing i (poolAfter o calls) ≡ 1
-  pub standing-was-created : (i : ℕ) → 1 ≤ standing i (poolAfter o calls) → often i (created (logOf o calls)) ≡ 1
-  pub standing-is-open : (i : ℕ) → 1 ≤ standing i (poolAfter o calls) → often i (closed (logOf o calls)) ≡ 0
+  pub stands-once : (i : ℕ) → 1 ≤ standing i p → standing i p ≡ 1
+  pub standing-was-created : (i : ℕ) → 1 ≤ standing i p → often i (created log) ≡ 1
+  pub standing-is-open : (i : ℕ) → 1 ≤ standing i p → often i (closed log) ≡ 0
   -- there are never more than the maximum
-  pub at-most : length (poolAfter o calls .available) + length (poolAfter o calls .lent) + length (poolAfter o calls .pending) ≤ o .maximum
+  pub at-most : total p ≤ maximum
+
+abbrev pub Connections : Options → List Call → Type 0
+Connections o calls = Placed (o .maximum) (logOf o calls) (poolAfter o calls)
 
 -- Reply 16 is only for one that is free: where an event that passes every test comes to its service stage, in the pool q that its own stage
 -- leaves, a connection that the service stage hands out stands on the available list, once, and is neither lent nor pending.
@@ -64,15 +68,19 @@ HandsOutFree o =
     → let q = handle e (withClock (poolAfter o before) now) .pool in
     (r i : ℕ) → List·Memᴰ (Replied r (Pooled i)) (service q .records) → Free i q
 
--- (b) Requests: those accepted are those answered, in order of the log, and then those still waiting, front to back.
-pub record Requests (o : Options) (calls : List Call) : Type 0 where
-  pub in-order : accepted (fresh o) calls ≡ answered (logOf o calls) ++ ids (poolAfter o calls .waiting)
+-- (b) Requests: of those accepted, a log, and the pool that it leaves, those accepted are those answered, in order of the log, and then
+-- those still waiting, front to back.
+pub record InOrder (accepted : List ℕ) (log : List Record) (p : Pool) : Type 0 where
+  pub in-order : accepted ≡ answered log ++ ids (p .waiting)
   -- the numbers accepted strictly rise,
-  pub accepted-rise : Rising 0 (accepted (fresh o) calls)
+  pub accepted-rise : Rising 0 accepted
   -- so those answered do: the order of answers is that of arrival,
-  pub answered-rise : Rising 0 (answered (logOf o calls))
+  pub answered-rise : Rising 0 (answered log)
   -- and nobody is answered twice
-  pub answered-once : (i : ℕ) → often i (answered (logOf o calls)) ≤ 1
+  pub answered-once : (i : ℕ) → often i (answered log) ≤ 1
+
+abbrev pub Requests : Options → List Call → Type 0
+Requests o calls = InOrder (accepted (fresh o) calls) (logOf o calls) (poolAfter o calls)
 
 -- (c) In time. A call that accepts request n answers it, or leaves it at the queue's end: behind those who waited before the call, save
 -- whom the call answered. With k of them ahead, n has its answer by the end of the (k+1)th later call that puts a connection on the

@@ -10,7 +10,7 @@ use lib.ListN.{length, getD, take}
 use borrow.Author.Tests.{eq-eqb, ne-eqb}
 use Rattle.definition.specs.Booleans.{by-bool, by-eq}
 use Rattle.definition.specs.Words.{if_then_else_, _=?_}
-use Rattle.definition.specs.Pool.{Pool, Conn, slotCount}
+use Rattle.definition.specs.Pool.{Pool, Conn, slotCount, total}
 use Rattle.definition.specs.Log.{numbers, often, sumOf}
 use Rattle.promises.specs.Promises.{standing}
 use Rattle.slots.specs.View.{SlotPool, Slot, vacant}
@@ -126,3 +126,44 @@ one-place {p} {m} st i =
     let k = st .table .mirror in
     let h : often i (numbers (view (p .ids) (p .slots) (take (p .availables) (p .available)))) + often i (numbers (m .lent)) + often i (numbers (m .pending)) ≤ 1 = placed k i (look i (p .ids) (p .slots)) refl in
     subst (λ (l : List Conn). often i (numbers l) + often i (numbers (m .lent)) + often i (numbers (m .pending)) ≤ 1) (k .available) h
+
+-- ── Whatever lists it stands for ───────────────────────────────────────────────────────────────────────────────────────
+
+listed-once : (i : ℕ) (l : List Conn) (s : Slot) → Once l → lookup i l ≡ some s → often i (numbers l) ≡ 1
+unfolding lookup if_then_else_
+listed-once i [] s o h = let z : _≡_ {A = ℕ} 0 1 = cc in absurd (omega arith)
+listed-once i (c ∷ l) s o h =
+    by-eq (c .id) i
+    (λ e. omega (arith, often-here i (c .id) (numbers l) e, unlisted i l (ap (λ (x : ℕ). lookup x l) (sym e) ∙ o .0)))
+    (λ n. often-there i (c .id) (numbers l) n ∙ listed-once i l s (o .1) (rw (ne-eqb (c .id) i n) at h))
+
+-- how often a number stands in a list is told by looking it up
+looked-up : (i : ℕ) (l k : List Conn) → Once l → Once k → (x : Option Slot) → lookup i l ≡ x → lookup i k ≡ x → often i (numbers l) ≡ often i (numbers k)
+looked-up i l k o p none a b = unlisted i l a ∙ sym (unlisted i k b)
+looked-up i l k o p (some s) a b = listed-once i l s o a ∙ sym (listed-once i k s p b)
+
+agrees-often : {t : Class} {xs : List ℕ} {ss : List Slot} {l k : List Conn} → Agrees t xs ss l → Agrees t xs ss k → (i : ℕ) → often i (numbers l) ≡ often i (numbers k)
+agrees-often {l = l} {k = k} a b i =
+    looked-up i l k (a .once) (b .once) (lookup i k)
+    (by-eq i 0
+    (λ e. ap (λ (x : ℕ). lookup x l) e ∙ a .named ∙ sym (b .named) ∙ ap (λ (x : ℕ). lookup x k) (sym e))
+    (λ n. let z : 0 < i = omega (arith, n) in sym (a .finds i z) ∙ b .finds i z))
+    refl
+
+-- two pools on lists that one on slots stands for hold the same connections in the same places, as many, and the same who wait
+module _ {p : SlotPool} {m n : Pool} (a : Stands p m) (b : Stands p n) where
+  pub same-places : (i : ℕ) → standing i m ≡ standing i n
+  same-places i =
+      let av : m .available ≡ n .available = sym (a .table .mirror .available) ∙ b .table .mirror .available in
+      omega (
+        arith,
+        ap (λ (l : List Conn). often i (numbers l)) av,
+        agrees-often (a .table .mirror .lent) (b .table .mirror .lent) i,
+        agrees-often (a .table .mirror .pending) (b .table .mirror .pending) i,
+      )
+
+  pub same-total : total m ≡ total n
+  same-total = sym (a .table .total) ∙ b .table .total
+
+  pub same-waiting : m .waiting ≡ n .waiting
+  same-waiting = sym (a .alike .queue .waits) ∙ b .alike .queue .waits

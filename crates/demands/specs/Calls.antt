@@ -24,7 +24,7 @@ use Rattle.definition.specs.declared.Refusal.{Refusal}
 use Rattle.definition.specs.declared.Refusal.the-variants.{OutputShort, Malformed, ClockBack, AfterClose, NumbersSpent, OldRequest, QueueFull, WrongState, WrongTime, OptionsOutOfRange, NotWaiting, AlreadyPinned}
 use Rattle.definition.specs.Log.{answered, ids}
 use Rattle.promises.specs.Promises.{Placed, InOrder}
-use Rattle.promises.specs.Proved.{connections, hands-out-free, requests, in-time}
+use Rattle.promises.specs.Proved.{connections, hands-out-free, requests, in-time, log-in-time}
 use Rattle.promises.specs.Progress.{in-time-from}
 use Rattle.promises.specs.Reached.{calm}
 use Rattle.promises.specs.Keeps.{step-written}
@@ -207,7 +207,8 @@ kept o h cs q st r = record {
   connections = placed-same st (rules-stand q r) (connections o (limits-of o h .minimum) cs);
   hands-out-free = hands-out-free o;
   requests = ordered-same st (rules-stand q r) (requests o cs);
-  in-time = in-time o;
+  in-time = log-in-time o cs;
+  in-time-after = in-time o;
 }
 
 made-in-range : (asked : Options) → making asked .outcome ≡ Accepted 0 → inRange (withDefaults asked) ≡ true

@@ -20,7 +20,7 @@ use Rattle.definition.specs.Day as Day
 use Rattle.definition.specs.Day.{Entry, Said, RefusedLine, frames, linesOf, numbered, textOf, framesUsed}
 use Rattle.definition.specs.declared.Options.{Options}
 use Rattle.definition.specs.declared.Refusal as declared
-use Rattle.promises.specs.Promises.{logOf, standing, Placed, HandsOutFree, InOrder, InTime, InTimeFrom}
+use Rattle.promises.specs.Promises.{logOf, standing, Placed, HandsOutFree, InOrder, LogInTime, InTime, InTimeFrom}
 use Rattle.promises.specs.Runs.{accepted}
 use Rattle.slots.specs.View.{SlotPool}
 use Rattle.slots.specs.declared.Outcome.the-variants.{Accepted}
@@ -83,12 +83,13 @@ Demand2 = (p : Pool) → Typed p → (bytes out : List ℕ) → Demand2For p byt
 
 -- What is promised of calls to a fresh pool with options o, of all records that they give, and of the lists m of the pool that they leave:
 -- each connection created and not yet closed is in exactly one place, and there are never more than the maximum; what is handed out is
--- free; requests are answered in order of arrival, once; and in time.
+-- free; requests are answered in order of arrival, once; and in time, in this log and whatever is called after.
 pub record Kept (o : Options) (cs : List R.Call) (m : D.Pool) : Type 0 where
   pub connections : Placed (o .maximum) (logOf o cs) m
   pub hands-out-free : HandsOutFree o
   pub requests : InOrder (accepted (fresh o) cs) (logOf o cs) m
-  pub in-time : InTime o
+  pub in-time : LogInTime o cs
+  pub in-time-after : InTime o
 
 -- (a) Any calls of any made pool. `left cs p` is the pool that the code leaves; `laidBy` are the bytes of all records that it laid down.
 unfoldable pub laidBy : List Lend → Pool → List ℕ

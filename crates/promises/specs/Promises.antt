@@ -100,6 +100,15 @@ InTimeFrom p =
 abbrev pub InTime : Options → Type 0
 InTime o = (before : List Call) → InTimeFrom (poolAfter o before)
 
+-- So the log of any calls answers whoever one of them took, once as many calls after that one put a connection there as waited at its
+-- end, the one that was taken among them.
+abbrev pub LogInTime : Options → List Call → Type 0
+LogInTime o calls =
+    (before : List Call) (call : Call) (later : List Call) (n : ℕ) → calls ≡ before ++ call ∷ later
+    → taken (call .frame) (result (poolAfter o before) call) ≡ n ∷ []
+    → length (next (poolAfter o before) call .waiting) ≤ times puts (next (poolAfter o before) call) later
+    → List·Memᴰ n (answered (logOf o calls))
+
 -- So it is with all counted who waited before the call, too: that is never fewer.
 abbrev pub InTimeBeforeFrom : Pool → Type 0
 InTimeBeforeFrom p =

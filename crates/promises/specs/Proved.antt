@@ -1,20 +1,23 @@
 -- The promises kept: each is one theorem.
-use mathlib.Core.Path.{_≡_, refl, sym}
+use mathlib.Core.Path.{_≡_, refl, sym, ap}
 use mathlib.Core.Bool.{Bool, true, false, _&&_}
-use mathlib.Core.List.{List, [], _∷_, _++_, List·Memᴰ, List·Memᴰ·head, List·Memᴰ·tail}
+use mathlib.Core.List.{List, [], _∷_, _++_, List·Memᴰ, List·Memᴰ·head, List·Memᴰ·tail, Memᴰ·append-left, Memᴰ·append-right, append-assoc}
+use mathlib.Core.Logic.{_⊎_, inl, inr}
 use Prim.Native.Nat.{ℕ, _+_, _≤_, _<_}
 use native.Mathlib.Omega.{arith}
+use lib.ListN.{length, length-append, length-map}
 use borrow.Author.Tests.{leb-true, eqb-true, ne-eqb, eq-eqb}
 use Rattle.definition.specs.Limits.{limits-of}
 use Rattle.definition.specs.Words.{if_then_else_, _≤?_, _=?_}
 use Rattle.definition.specs.Pool.{Pool, fresh, slotCount, withDefaults, inRange, withClock}
 use Rattle.definition.specs.Steps.{Out, _>>_, handle}
-use Rattle.definition.specs.Refusals.{run, Call, Made, NotMade, make}
+use Rattle.definition.specs.Refusals.{run, after, Call, Made, NotMade, make}
 use Rattle.definition.specs.declared.Options.{Options}
 use Rattle.definition.specs.declared.Refusal.the-variants.{OptionsOutOfRange}
 use Rattle.definition.specs.Log.{created, closed, answered, ids, often, sumOf, Rising}
-use Rattle.promises.specs.Promises.{Fresh, MadeFresh, Connections, HandsOutFree, Requests, InTime, InTimeBefore, FewClosed, FewRecords, Serials, poolAfter, logOf, standing}
-use Rattle.definition.specs.Sentences.{pooled-was-available}
+use Rattle.promises.specs.Promises.{Fresh, MadeFresh, Connections, HandsOutFree, Requests, InTime, Waits, LogInTime, InTimeBefore, FewClosed, FewRecords, Serials, poolAfter, logOf, standing}
+use Rattle.definition.specs.Sentences.{pooled-was-available, answered-append}
+use Rattle.promises.specs.Runs.{result, next, puts, times}
 use Rattle.promises.specs.Calls.{stepped}
 use Rattle.promises.specs.Flow.{run-flow, run-calms, fresh-calm}
 use Rattle.promises.specs.Keeps.{run-rising, run-options, run-written}
@@ -115,6 +118,27 @@ requests o calls =
 
 pub in-time : (o : Options) → InTime o
 in-time o before = in-time-from (poolAfter o before) (run-calms before (fresh o) (fresh-calm o))
+
+-- in the records of the call, or in those of the calls after it
+by-then : (o : Options) (before : List Call) (call : Call) (later : List Call) (n : ℕ)
+    → let out = after (poolAfter o before) (result (poolAfter o before) call) in
+    List·Memᴰ n (answered (out .records)) ⊎ Waits n (poolAfter o before) out → length (out .pool .waiting) ≤ times puts (out .pool) later
+    → List·Memᴰ n (answered (run (call ∷ later) (poolAfter o before) .records))
+unfolding run _>>_
+by-then o before call later n (inl m) h = rw answered-append (Memᴰ·append-left _ m)
+by-then o before call later n (inr w) h =
+    let l = simp (length-append, length-map) at (ap length (w .behind-them)) in
+    rw answered-append (Memᴰ·append-right (answered (after (poolAfter o before) (result (poolAfter o before) call) .records)) (w .then-answered later (omega (arith, h, l))))
+
+run-append : (a b : List Call) (p : Pool) → run (a ++ b) p .records ≡ run a p .records ++ run b (run a p .pool) .records
+unfolding run _>>_
+run-append [] b p = refl
+run-append (c ∷ a) b p = rw (run-append a b (next p c), append-assoc)
+
+pub log-in-time : (o : Options) (calls : List Call) → LogInTime o calls
+log-in-time o calls before call later n e t h =
+    let p = poolAfter o before in
+    rw (e, run-append before (call ∷ later) (fresh o), answered-append) (Memᴰ·append-right (answered (logOf o before)) (by-then o before call later n (in-time o before call n t) h))
 
 pub in-time-before : (o : Options) → InTimeBefore o
 in-time-before o before = in-time-before-from (poolAfter o before) (run-calms before (fresh o) (fresh-calm o))

@@ -5,6 +5,7 @@ use mathlib.Core.List.{List, [], _∷_}
 use mathlib.Core.Option.{none}
 use Prim.Native.Nat.{ℕ, zero, suc, _≤_}
 use native.Mathlib.Omega.{arith}
+use lib.ListN.{length}
 use borrow.Author.Tests.{eqb-true}
 use Rattle.definition.specs.Words.{if_then_else_, _=?_}
 use Rattle.definition.specs.Pool.{Conn, find, stateNo, stateOfNo}
@@ -46,3 +47,8 @@ pub not-first : (r : Refusal) (b : Bool) (ts : List Test) → first ((r if b) �
 unfolding if_then_else_ first
 not-first r true ts e = let z : _≡_ {A = ℕ} 0 1 = cc in absurd (omega arith)
 not-first r false ts e = (refl, e)
+
+-- a list of no length is empty
+pub no-length : {A : Type 0} (l : List A) → length l ≡ 0 → l ≡ []
+no-length [] h = refl
+no-length (x ∷ l) h = absurd (omega arith)

@@ -1,11 +1,11 @@
 -- Demands 1 and 2, and the third of any calls.
 use mathlib.Core.Path.{_≡_, refl, sym, ap, subst, _∙_}
-use mathlib.Core.Bool.{Bool, true, false, false≢true}
-use mathlib.Core.List.{List, [], _∷_, _++_, append-assoc}
+use mathlib.Core.Bool.{true, false}
+use mathlib.Core.List.{List, [], _∷_, _++_}
 use mathlib.Core.Logic.{_⊎_, inl, inr}
-use Prim.Native.Nat.{ℕ, suc, _+_, _*_, _≤_}
+use Prim.Native.Nat.{ℕ, _+_, _*_, _≤_}
 use native.Mathlib.Omega.{arith}
-use lib.ListN.{length, take, drop, length-append}
+use lib.ListN.{length, take, drop}
 use lib.Seq.{take-at, drop-at}
 use borrow.Author.Tests.{ltb-true, ltb-false}
 use Rattle.definition.specs.Booleans.{by-bool}
@@ -13,12 +13,12 @@ use Rattle.definition.specs.Limits.{limits-of}
 use Rattle.definition.specs.Words.{if_then_else_, _<?_}
 use Rattle.definition.specs.Pool as D
 use Rattle.definition.specs.Pool.{Waiter, fresh, withDefaults, inRange}
-use Rattle.definition.specs.Records.{Record, recordLength, fieldsOf}
+use Rattle.definition.specs.Records.{Record, recordLength}
 use Rattle.definition.specs.Steps.{Out, _>>_}
 use Rattle.definition.specs.Refusals as R
 use Rattle.definition.specs.Refusals.{enoughRoom, roomRecords, refusalNo, after, run}
-use Rattle.definition.specs.Bytes.{frameOf, serialOf, recordBytes}
-use Rattle.definition.specs.Day.{Entry, Said, entryBytes, numbered}
+use Rattle.definition.specs.Bytes.{frameOf}
+use Rattle.definition.specs.Day.{numbered}
 use Rattle.definition.specs.declared.Options.{Options}
 use Rattle.definition.specs.declared.Refusal.{Refusal}
 use Rattle.definition.specs.declared.Refusal.the-variants.{OutputShort, Malformed, ClockBack, AfterClose, NumbersSpent, OldRequest, QueueFull, WrongState, WrongTime, OptionsOutOfRange, NotWaiting, AlreadyPinned}
@@ -30,9 +30,7 @@ use Rattle.promises.specs.Reached.{calm}
 use Rattle.promises.specs.Keeps.{step-written}
 use Rattle.promises.specs.Calls.{stepped}
 use Rattle.slots.specs.View.{SlotPool}
-use Rattle.slots.specs.Call.{World, call}
-use Rattle.slots.specs.OrderLaws.{length-record}
-use Rattle.slots.specs.declared.Outcome.{Outcome}
+use Rattle.slots.specs.Call.{call}
 use Rattle.slots.specs.declared.Outcome.the-variants.{Refused, Accepted}
 use Rattle.refinement.specs.Stands.{Stands, Formed}
 use Rattle.refinement.specs.Formed.{fresh-stands, fresh-formed}
@@ -45,10 +43,10 @@ use Rattle.pool.specs.Making.{making, freshPool}
 use Rattle.pool.specs.declared.Pool.{Pool}
 use Rattle.pool.specs.declared.Made.{Made}
 use Rattle.entry.specs.Entry.{Entered, entered, entry, keeps, refusalIn, recordsIn}
-use Rattle.entry.specs.Tested.{Typed, keeps-exact, entry-short}
-use Rattle.entry.specs.Meaning.{Meant, Done, Lend, calls, left, Ran, shortOrBad, entry-unkept, unkept, entry-back, entry-formed, entry-meant, rules-meant, left-formed, entries-run, entry-stands, made-runs, making-makes, making-refuses}
-use Rattle.replay.specs.Laying.{lay-entries, length-lay, length-numbered}
-use Rattle.demands.specs.Demands.{IsRefused, IsAccepted, Demand1, defined, Demand2For, Demand2, Kept, laidBy, Demand3For, Demand3Calls, Demand3Any}
+use Rattle.entry.specs.Tested.{keeps-exact, entry-short}
+use Rattle.entry.specs.Meaning.{Meant, Done, Lend, calls, left, shortOrBad, unkept, entry-back, entry-formed, entry-meant, rules-meant, left-formed, entries-run, entry-stands, made-runs, making-makes, making-refuses}
+use Rattle.replay.specs.Laying.{lay-entries, length-lay, numbered-append, entries-append, entries-length}
+use Rattle.demands.specs.Demands.{IsRefused, IsAccepted, Demand1, Demand2, Kept, laidBy, Demand3Calls, Demand3Any}
 
 -- ── The twelve numbers ─────────────────────────────────────────────────────────────────────────────────────────────────
 
@@ -77,11 +75,6 @@ has-room : (p : Pool) (b l : List ℕ) (n : ℕ) → entry p b l .outcome ≡ Ac
 has-room p b l n h = by-bool (length l <? enoughRoom)
     (λ s. let e = ap (λ (w : Entered). w .outcome) (entry-short p b l (ltb-true (length l) enoughRoom s)) in let z : _≡_ {A = ℕ} 0 1 = cc in absurd (omega arith))
     (λ s. ltb-false (length l) enoughRoom s)
-
-entries-length : (w : ℕ) (rs : List Record) → length (entriesBytes (numbered w rs)) ≡ 16 * length rs
-unfolding entriesBytes numbered entryBytes
-entries-length w [] = refl
-entries-length w (r ∷ rs) = length-append (recordBytes (serialOf w) (fieldsOf r)) _ ∙ omega (arith, length-record (serialOf w) (fieldsOf r), entries-length (w + 1) rs)
 
 module _ (p : Pool) (f : Formed (viewOf p)) (m : D.Pool) (st : Stands (viewOf p) m) (b l : List ℕ) (o : Out D.Pool) (d : Done p l (entry p b l) o) where
   few : length (o .records) ≤ roomRecords
@@ -137,18 +130,6 @@ demand-2 p t b l = record {
 }
 
 -- ── All that calls lay down ────────────────────────────────────────────────────────────────────────────────────────────
-
-pub numbered-append : (w : ℕ) (xs ys : List Record) → numbered w (xs ++ ys) ≡ numbered w xs ++ numbered (w + length xs) ys
-unfolding numbered
-numbered-append w [] ys = let z : w + 0 ≡ w = omega arith in rw z
-numbered-append w (x ∷ xs) ys =
-    let z : w + 1 + length xs ≡ w + suc (length xs) = omega arith in
-    ap (λ (es : List Entry). Said w x ∷ es) (numbered-append (w + 1) xs ys ∙ rw z)
-
-pub entries-append : (xs ys : List Entry) → entriesBytes (xs ++ ys) ≡ entriesBytes xs ++ entriesBytes ys
-unfolding entriesBytes
-entries-append [] ys = refl
-entries-append (e ∷ xs) ys = rw (entries-append xs ys, append-assoc)
 
 module _ (p : Pool) (f : Formed (viewOf p)) (m : D.Pool) (st : Stands (viewOf p) m) (b l : List ℕ) where
   abbrev laidAt : List ℕ

@@ -1,10 +1,10 @@
 -- The third demand of any text of a day: its lines are calls, its log's records are the run's, and the machine's last pool is the run's.
 use mathlib.Core.Path.{_≡_, refl, sym, ap, subst, _∙_}
 use mathlib.Core.Bool.{Bool, true, false}
-use mathlib.Core.List.{List, [], _∷_, _++_, map}
+use mathlib.Core.List.{List, [], _∷_, _++_}
 use mathlib.Core.Logic.{_⊎_, inl, inr}
 use mathlib.Core.Option.{Option, none, some}
-use Prim.Native.Nat.{ℕ, suc, _+_, _-_, _≤_, _<_, min}
+use Prim.Native.Nat.{ℕ, suc, _+_, _-_, _≤_, _<_}
 use native.Mathlib.Omega.{arith}
 use lib.ListN.{length, take, replicate, length-replicate}
 use lib.Seq.{take-nil}
@@ -14,7 +14,7 @@ use Rattle.definition.specs.Words.{if_then_else_, _<?_}
 use Rattle.definition.specs.Pool as D
 use Rattle.definition.specs.Pool.{fresh, withDefaults, inRange}
 use Rattle.definition.specs.Records.{Record}
-use Rattle.definition.specs.Steps.{Out, _>>_}
+use Rattle.definition.specs.Steps.{_>>_}
 use Rattle.definition.specs.Refusals as R
 use Rattle.definition.specs.Refusals.{step, after, run, enoughRoom, make}
 use Rattle.definition.specs.Bytes.{frameOfLine, optionsOfLine}
@@ -33,7 +33,7 @@ use Rattle.refinement.specs.Formed.{fresh-formed, call-formed}
 use Rattle.refinement.specs.Rules.{Rules, formed-rules}
 use Rattle.first_line.specs.declared.Phase.{Phase}
 use Rattle.first_line.specs.declared.Phase.the-variants as phase
-use Rattle.first_line.specs.Took.{Took, quiet, lineRoom}
+use Rattle.first_line.specs.Took.{Took, quiet}
 use Rattle.first_line.specs.OnSlots as O
 use Rattle.first_line.specs.OnSlots.{Play}
 use Rattle.first_line.specs.Code.{Able}
@@ -41,15 +41,15 @@ use Rattle.frame_lines.specs.OnSlots as F
 use Rattle.lines.specs.OnSlots as P
 use Rattle.lines.specs.OnSlots.{onSlots, lineSlots, lastSlots}
 use Rattle.runs.specs.Code.{noOptions}
-use Rattle.session.specs.Code.{opening, begun}
-use Rattle.replay.specs.Calls.{feed, ended}
+use Rattle.session.specs.Code.{begun}
 use Rattle.replay.specs.Whole.{lines, text-lines, slots-tame}
-use Rattle.replay.specs.Lists.{Lists, Stage, First, Going, Ended, onLists, start, answered}
-use Rattle.replay.specs.Meaning.{Plays, Tied, Says, lines-say}
+use Rattle.replay.specs.Lists.{Stage, First, Going, Ended, onLists, start, answered, goingAt}
+use Rattle.replay.specs.Laying.{numbered-append}
+use Rattle.replay.specs.Meaning.{Tied, Says, lines-say}
 use Rattle.replay.specs.Sessions.{so-far-end}
 use Rattle.replay.specs.Days.{day-whole, day-room, day-begins}
-use Rattle.demands.specs.Demands.{Kept, lineCalls, saidIn, lastPool, Replayed, Runs, EndsAtOnce, Demand3ForDay, Demand3Days}
-use Rattle.demands.specs.Calls.{kept, numbered-append}
+use Rattle.demands.specs.Demands.{lineCalls, saidIn, lastPool, Replayed, Runs, EndsAtOnce, Demand3Days}
+use Rattle.demands.specs.Calls.{kept}
 
 -- ── The log's records are the run's ────────────────────────────────────────────────────────────────────────────────────
 
@@ -81,9 +81,6 @@ frames-said (l ∷ ls) p line =
     ∙ sym (numbered-append (p .written) (after p r .records) (run (lineCalls ls) (after p r .pool) .records))
 
 -- ── The last pool is the run's ─────────────────────────────────────────────────────────────────────────────────────────
-
-abbrev goingAt : D.Pool → ℕ → ℕ → Lists
-goingAt p used budget = record { stage = Going p; used = used; budget = budget }
 
 abbrev LeavesRun : (ls : List (List ℕ)) → D.Pool → (used budget : ℕ) → Stage → Type 0
 LeavesRun ls p used budget s = s ≡ Going (run (lineCalls (take (budget - used) ls)) p .pool)

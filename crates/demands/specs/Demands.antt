@@ -3,7 +3,7 @@
 -- `entry p bytes out` is what a call leaves: pool, output and answer. The contracts of `entry::step`, and of `in_place::event` for a pool
 -- that is lent, say that the code leaves just that. `Typed p` says of the pool value p what its type in the code says.
 use mathlib.Core.Path.{_≡_}
-use mathlib.Core.Bool.{Bool, true}
+use mathlib.Core.Bool.{true}
 use mathlib.Core.List.{List, [], _∷_, _++_, map}
 use mathlib.Core.Logic.{_⊎_}
 use mathlib.Core.Option.{some}
@@ -12,7 +12,7 @@ use lib.ListN.{length, take, drop}
 use Rattle.definition.specs.Words.{if_then_else_}
 use Rattle.definition.specs.Pool as D
 use Rattle.definition.specs.Pool.{fresh, withDefaults, inRange}
-use Rattle.definition.specs.Records.{Record, recordLength}
+use Rattle.definition.specs.Records.{recordLength}
 use Rattle.definition.specs.Refusals as R
 use Rattle.definition.specs.Refusals.{enoughRoom, roomRecords}
 use Rattle.definition.specs.Bytes.{frameOf, frameOfLine, optionsOfLine}

@@ -1,5 +1,4 @@
 pub mod Entry
 pub mod Tested
 pub mod Meaning
-pub mod Queue
 pub mod Shut

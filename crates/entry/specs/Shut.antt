@@ -36,7 +36,7 @@ use Rattle.entry.specs.Entry.{Entered, keeps, entry}
 use Rattle.entry.specs.Tested.{Typed, keeps-exact}
 use Rattle.entry.specs.Meaning.{Done, entry-meant, entry-formed, Meant, entry-unkept, rules-meant, formed-typed, Lend, left, Ran, entries-run, counts-meant}
 use Rattle.entry.specs.Meaning as M
-use Rattle.entry.specs.Queue.{answersAll, call-takes}
+use Rattle.promises.specs.OneWaiter.{answersAll, call-takes}
 use Rattle.pool.specs.declared.Pool.{Pool}
 use Rattle.pool.specs.declared.Counts.{Counts}
 

@@ -9,25 +9,18 @@ use lib.ListN.{length, length-append, length-map, length-reverse}
 use native.Mathlib.Omega.{arith}
 use borrow.Author.Tests.{ltb-true, leb-false}
 use Rattle.definition.specs.Booleans.{and-left, and-right}
-use Rattle.definition.specs.Laws.{not-first}
 use Rattle.definition.specs.Words.{if_then_else_, _<?_, some?}
-use Rattle.definition.specs.Pool.{Pool, Conn, Waiter, isReady, total, queueLength, withClock, withWaiting, withAvailable, fresh}
+use Rattle.definition.specs.Pool.{Pool, Conn, Waiter, isReady, total, withWaiting, withAvailable}
 use Rattle.definition.specs.Records.{told}
 use Rattle.definition.specs.Steps.{Out, Act, _>>_, nothing, shelve, lendOut, createPendingConnection, createMany, closePerished, removePerished, ensureMinConnections, maintenance, handle, canService, establish, lend, takeAvailable, checkOut, serveFront, service, serviced, event}
-use Rattle.definition.specs.Refusals.{first, kindTests, Result, Call, after, run}
-use Rattle.definition.specs.declared.Options.{Options}
+use Rattle.definition.specs.Refusals.{after}
 use Rattle.definition.specs.declared.Event.{Event}
-use Rattle.definition.specs.declared.Event.the-variants.{CheckOut, WarmPool, Abandon, CheckIn, Clear, MarkAsReady, Succeeded, SucceededForPool, Failed, Maintenance, FillPool, Pin, ReturnToPinner, TakeFromPinner, Close}
-use Rattle.definition.specs.declared.Frame.{Frame}
-use Rattle.definition.specs.declared.Frame.the-variants.{Good}
+use Rattle.definition.specs.declared.Event.the-variants.{Maintenance}
 use Rattle.definition.specs.declared.Purpose.{Purpose}
 use Rattle.definition.specs.declared.Purpose.the-variants.{Background}
 use Rattle.definition.specs.Log.{created, closed, sumOf}
-use Rattle.promises.specs.Runs.{arrivals, next}
-use Rattle.promises.specs.Calls.{Named, Stepped, no-step, a-step, stepped, passed-kind, passed-named}
-use Rattle.promises.specs.Flow.{Calm, step-flow, step-calms, fresh-calm}
-use Rattle.promises.specs.Progress.{flow-lengths}
-use Rattle.promises.specs.Keeps.{removePerished-keeps, handle-keeps, step-options}
+use Rattle.promises.specs.Calls.{Named}
+use Rattle.promises.specs.Keeps.{removePerished-keeps, handle-keeps}
 use Rattle.promises.specs.Sums.{sum-length}
 use Rattle.promises.specs.Conserve.{created-append, held, Moves, removePerished-moves, refill-moves, handle-moves}
 use Rattle.promises.specs.Numbered.{Plain, removePerished-plain, handle-plain}

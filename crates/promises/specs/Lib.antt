@@ -9,6 +9,7 @@ pub mod Bound
 pub mod States
 pub mod Reached
 pub mod Tested
+pub mod OneWaiter
 pub mod RecordCounts
 pub mod Promises
 pub mod Progress

@@ -1,5 +1,5 @@
 -- What a pool's state says of the rest of it, and that every event keeps it so.
-use mathlib.Core.Path.{_≡_, refl, ap, sym, _∙_}
+use mathlib.Core.Path.{_≡_, refl, ap, _∙_}
 use mathlib.Core.Bool.{Bool, true, false, true≢false, false≢true, not, _&&_, _||_}
 use mathlib.Core.List.{List, [], _∷_}
 use mathlib.Core.Logic.{_⊎_, inl, inr}
@@ -7,7 +7,8 @@ use Prim.Native.Nat.{ℕ, zero, suc, _+_, _≤_, _<_}
 use lib.ListN.{length}
 use native.Mathlib.Omega.{arith}
 use borrow.Author.Tests.{eqb-true, eqb-false, eq-eqb, lt-ltb, not-false}
-use Rattle.definition.specs.Booleans.{by-bool, and-left, and-right, both-true}
+use Rattle.definition.specs.Booleans.{and-left, and-right, both-true}
+use Rattle.definition.specs.Laws.{no-length}
 use Rattle.definition.specs.Words.{if_then_else_, _=?_, _<?_}
 use Rattle.definition.specs.Pool.{Pool, Conn, Waiter, isReady, isClosed, total, withWaiting}
 use Rattle.definition.specs.Steps.{kindNo, Out, Act, _>>_, nothing, leaveLent, leavePending, shelve, lendOut, createPendingConnection, createMany, closePerished, tellAll, enter, queue, request, abandon, checkIn, clear, markAsReady, succeeded, succeededForPool, failed, removePerished, ensureMinConnections, maintenance, repin, shut, handle, canService, serveFront, service, serviced, event}
@@ -36,10 +37,6 @@ Stated p = stateFits (p .state) (p .generation) (p .nextId) (total p) (length (p
 
 -- ── Nobody waits ───────────────────────────────────────────────────────────────────────────────────────────────────────
 
-none-left : {A : Type 0} (l : List A) → length l ≡ 0 → l ≡ []
-none-left [] h = refl
-none-left (x ∷ l) h = absurd (omega arith)
-
 waits-none : (s : PoolState) (g n t a w : ℕ) → isReady s ≡ false → stateFits s g n t a w ≡ true → w ≡ 0
 waits-none New g n t a w r h = eqb-true w 0 (and-right (t =? 0) _ (and-right (n =? 1) _ (and-right (g =? 0) _ h)))
 waits-none (Paused cause) g n t a w r h = eqb-true w 0 (and-right (0 <? g) _ (and-right (0 <? cause) _ h))
@@ -48,7 +45,7 @@ waits-none Closed g n t a w r h = eqb-true w 0 (and-right (a =? 0) _ h)
 
 pub stated-calm : (p : Pool) → Stated p → Calm p
 unfolding Stated Calm
-stated-calm p h r = none-left (p .waiting) (waits-none (p .state) _ _ _ _ _ r h)
+stated-calm p h r = no-length (p .waiting) (waits-none (p .state) _ _ _ _ _ r h)
 
 -- ── Events that leave the state and the generation alone ───────────────────────────────────────────────────────────────
 
@@ -129,7 +126,7 @@ handle-unmade e p n r z = go (handle-plain e p)
     go : Plain p (handle e p) ⊎ (e ≡ Maintenance) → Unmade p (handle e p .pool)
     go (inl h) = record { next = h .next-stays; none = plain-fits p (handle e p) (handle-moves e p n) h }
     go (inr h) =
-        let same = idles p r (none-left (p .available) (omega arith)) in
+        let same = idles p r (no-length (p .available) (omega arith)) in
         rw h (record { next = ap (λ (q : Pool). q .nextId) same; none = rw same (omega arith) })
 
 -- a Closed pool puts nothing on its list

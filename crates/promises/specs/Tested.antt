@@ -1,17 +1,17 @@
 -- The maximum at creation. The Rust tests it where it makes a connection for a waiter, and puts the waiter back in front where there is
 -- no room; the definition has no such branch. With the test in its place the service stage is the same, in every pool that is reached
 -- or that a call accepts.
-use mathlib.Core.Path.{_≡_, refl, ap, sym}
+use mathlib.Core.Path.{_≡_, refl, sym}
 use mathlib.Core.Bool.{Bool, true, false}
 use mathlib.Core.List.{List, [], _∷_, reverse}
-use Prim.Native.Nat.{ℕ, _+_, _≤_, _<_}
+use Prim.Native.Nat.{_+_, _≤_, _<_}
 use lib.ListN.{length, length-reverse}
 use native.Mathlib.Omega.{arith}
 use borrow.Author.Tests.{lt-ltb, leb-false}
 use Rattle.definition.specs.Words.{if_then_else_, _<?_, _≤?_}
 use Rattle.definition.specs.Pool.{Pool, Conn, Waiter, total, perished, withAvailable, withWaiting}
 use Rattle.definition.specs.Records.{Warmed, told}
-use Rattle.definition.specs.Steps.{Out, Act, _>>_, nothing, emit, become, closePerished, canService, establish, lend, takeAvailable, checkOut, serveFront, service}
+use Rattle.definition.specs.Steps.{Act, _>>_, nothing, emit, become, closePerished, canService, establish, lend, takeAvailable, checkOut, serveFront, service}
 use Rattle.promises.specs.Bound.{room}
 use Rattle.promises.specs.Reached.{Reached}
 

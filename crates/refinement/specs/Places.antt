@@ -1,7 +1,7 @@
 -- Every connection of a pool that stands for lists is in one place: a slot is of one class, and no id stands in two slots.
 use mathlib.Core.Path.{_≡_, refl, ap, sym, subst, _∙_}
-use mathlib.Core.Bool.{Bool, true, false, true≢false, not, _&&_}
-use mathlib.Core.List.{List, [], _∷_, map}
+use mathlib.Core.Bool.{true, false, not, _&&_}
+use mathlib.Core.List.{List, [], _∷_}
 use mathlib.Core.Logic.{_≢_}
 use mathlib.Core.Option.{Option, none, some}
 use Prim.Native.Nat.{ℕ, _+_, _≤_, _<_}
@@ -15,8 +15,8 @@ use Rattle.definition.specs.Log.{numbers, often, sumOf}
 use Rattle.promises.specs.Promises.{standing}
 use Rattle.slots.specs.View.{SlotPool, Slot, vacant}
 use Rattle.refinement.specs.Table.{Unique, look, look-at, lookup, Once}
-use Rattle.refinement.specs.Agree.{Class, Agrees, only, only-in, only-out, only-none}
-use Rattle.refinement.specs.Mirror.{Mirror, isLent, isPending, All, Distinct, Listed, connAt, view}
+use Rattle.refinement.specs.Agree.{Class, Agrees, only, only-out, only-none}
+use Rattle.refinement.specs.Mirror.{Mirror, isLent, isPending, All, Distinct, Listed, view}
 use Rattle.refinement.specs.Order.{within}
 use Rattle.refinement.specs.Stands.{Stands}
 

@@ -10,10 +10,9 @@ use lib.Seq.{set-out, getD-set-same, getD-set-other}
 use Rattle.definition.specs.Booleans.{by-eq, by-lt}
 use Rattle.definition.specs.Words.{if_then_else_, _<?_, _=?_}
 use Rattle.definition.specs.Pool.{slotCount, Waiter, isReady}
-use Rattle.definition.specs.Records.{Record, Reply, PoolCleared, Interrupt, Cleared}
+use Rattle.definition.specs.Records.{Record, Reply, PoolCleared, Cleared}
 use Rattle.definition.specs.Steps.{Out, Act, nothing, emit, become, _>>_}
 use Rattle.definition.specs.declared.ClosedReason.{ClosedReason}
-use Rattle.definition.specs.declared.ClosedReason.the-variants.{PoolClosed}
 use Rattle.definition.specs.declared.Event.{Event}
 use Rattle.definition.specs.declared.Event.the-variants.{CheckOut, WarmPool, Abandon, CheckIn, Clear, MarkAsReady, Succeeded, SucceededForPool, Failed, Maintenance, FillPool, Pin, ReturnToPinner, TakeFromPinner, Close}
 use Rattle.definition.specs.declared.PoolState.{PoolState}

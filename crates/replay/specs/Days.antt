@@ -7,6 +7,7 @@ use native.Mathlib.Omega.{arith}
 use borrow.Author.Tests.{eq-eqb, eqb-true, le-leb}
 use lib.ListN.{length, drop, replicate, length-append, length-replicate}
 use Rattle.definition.specs.Booleans.{and-left}
+use Rattle.definition.specs.Laws.{no-length}
 use Rattle.definition.specs.Words.{if_then_else_, _=?_, _≤?_}
 use Rattle.definition.specs.Day.{logOf}
 use Rattle.definition.specs.Refusals.{enoughRoom}
@@ -59,10 +60,6 @@ all-read k e =
   where
     done : (k : Fed Play ℕ) → ended onSlots (joined (k .out) (stop (k .view) [])) ≡ ended onSlots k
     done k = rw append-nil
-
-no-length : (l : List ℕ) → length l ≡ 0 → l ≡ []
-no-length [] e = refl
-no-length (x ∷ l) e = absurd (omega arith)
 
 module _ (room budget : ℕ) (text : List ℕ) where
   abbrev got : Fed Play ℕ

@@ -9,7 +9,7 @@ use lib.Seq.{take-at, drop-at, drop-drop, length-take-le}
 use Rattle.slots.specs.OrderLaws.{length-record, length-laid}
 use Rattle.definition.specs.Records.{Record, fieldsOf}
 use Rattle.definition.specs.Bytes.{serialOf, recordBytes}
-use Rattle.definition.specs.Day.{entryBytes, numbered, textOf}
+use Rattle.definition.specs.Day.{Entry, Said, entryBytes, numbered, textOf}
 use Rattle.slots.specs.Laid.{laid}
 use Rattle.slots.specs.Done.{lay}
 use Rattle.printing.specs.Printed.{printed, entriesBytes, printed-entries}
@@ -86,3 +86,22 @@ pub printed-lay : (s w : ℕ) (rs : List Record) (l : List ℕ) → s ≡ serial
 printed-lay s w rs l e h =
     rw (lay-entries s w rs l e h)
     (ap (λ (n : ℕ). printed n (entriesBytes (numbered w rs) ++ drop (16 * length rs) l)) (sym (length-numbered w rs)) ∙ printed-entries (numbered w rs) _)
+
+-- ── Entries, one after the other ───────────────────────────────────────────────────────────────────────────────────────────
+
+pub entries-length : (w : ℕ) (rs : List Record) → length (entriesBytes (numbered w rs)) ≡ 16 * length rs
+unfolding entriesBytes numbered entryBytes
+entries-length w [] = refl
+entries-length w (r ∷ rs) = length-append (recordBytes (serialOf w) (fieldsOf r)) _ ∙ omega (arith, length-record (serialOf w) (fieldsOf r), entries-length (w + 1) rs)
+
+pub numbered-append : (w : ℕ) (xs ys : List Record) → numbered w (xs ++ ys) ≡ numbered w xs ++ numbered (w + length xs) ys
+unfolding numbered
+numbered-append w [] ys = let z : w + 0 ≡ w = omega arith in rw z
+numbered-append w (x ∷ xs) ys =
+    let z : w + 1 + length xs ≡ w + suc (length xs) = omega arith in
+    ap (λ (es : List Entry). Said w x ∷ es) (numbered-append (w + 1) xs ys ∙ rw z)
+
+pub entries-append : (xs ys : List Entry) → entriesBytes (xs ++ ys) ≡ entriesBytes xs ++ entriesBytes ys
+unfolding entriesBytes
+entries-append [] ys = refl
+entries-append (e ∷ xs) ys = rw (entries-append xs ys, append-assoc)

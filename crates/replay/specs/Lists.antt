@@ -105,7 +105,7 @@ pub record Gives (k : Took Lists Entry) (es : List Entry) (n : ℕ) : Type 0 whe
   pub log : k .out ≡ es
   pub used : k .state .used ≡ n
 
-abbrev goingAt : Pool → ℕ → ℕ → Lists
+abbrev pub goingAt : Pool → ℕ → ℕ → Lists
 goingAt p used budget = record { stage = Going p; used = used; budget = budget }
 
 abbrev lineGoing : Pool → ℕ → ℕ → List ℕ → Bool → Took Lists Entry

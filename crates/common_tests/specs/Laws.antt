@@ -1,35 +1,17 @@
--- What the exits rest on: the number of a clear; the kinds that a closed pool takes; and what the shared tests said, by their verdict.
+-- What the exits rest on: the kinds that a closed pool takes; and what the shared tests said, by their verdict.
 use mathlib.Core.Path.{_≡_, refl, ap}
-use mathlib.Core.Bool.{Bool, true, false, false≢true}
+use mathlib.Core.Bool.{true, false, false≢true}
 use mathlib.Core.Option.{Option, none, some}
 use Prim.Native.Nat.{ℕ}
 use native.Mathlib.Omega.{arith}
 use Rattle.definition.specs.Words.{_=?_}
+use Rattle.definition.specs.Laws.{not-clear}
 use Rattle.definition.specs.Steps.{kindNo}
 use Rattle.definition.specs.Refusals.{takenAfterClose}
 use Rattle.definition.specs.declared.Event.{Event}
-use Rattle.definition.specs.declared.Event.the-variants.{CheckOut, WarmPool, Abandon, CheckIn, Clear, MarkAsReady, Succeeded, SucceededForPool, Failed, Maintenance, FillPool, Pin, ReturnToPinner, TakeFromPinner, Close}
 use Rattle.definition.specs.declared.Refusal.{Refusal}
 use Rattle.common_tests.specs.Tests.{commonOf}
 use Rattle.common_tests.specs.declared.Common.the-variants.{Refuse, Pass}
-
--- 5 is the number of a clear alone
-pub not-clear : (e : Event) → ((t : Bool) (c : ℕ) → e ≡ Clear t c → ⊥) → (kindNo e =? 5) ≡ false
-not-clear (CheckOut n) h = refl
-not-clear (WarmPool n) h = refl
-not-clear (Abandon n) h = refl
-not-clear (CheckIn n er ex t) h = refl
-not-clear (Clear t c) h = absurd (h t c refl)
-not-clear MarkAsReady h = refl
-not-clear (Succeeded n) h = refl
-not-clear (SucceededForPool n t) h = refl
-not-clear (Failed n) h = refl
-not-clear Maintenance h = refl
-not-clear FillPool h = refl
-not-clear (Pin n) h = refl
-not-clear (ReturnToPinner n) h = refl
-not-clear (TakeFromPinner n) h = refl
-not-clear Close h = refl
 
 -- a clear is not among the kinds that a closed pool takes
 pub clear-no : (e : Event) → takenAfterClose e ≡ true → (kindNo e =? 5) ≡ false

@@ -1,7 +1,6 @@
 // The tests that every event must pass, whatever its kind: a clear's cause, the event's time, the closed pool, the numbers spent.
 ghost use mathlib.Core.Path.{_≡_};
 ghost use Rattle.definition.specs.Steps.{kindNo};
-ghost use Rattle.definition.specs.Refusals.{causeless};
 ghost use Rattle.common_tests.specs.Tests.{takenAfter, spent, commonVerdict};
 use definition::Event;
 use definition::LAST_NEXT_ID;
@@ -37,16 +36,6 @@ pub fn kind_no(e: Event) -> u8
         Event::TakeFromPinner(_) => 14,
         Event::Close => 15,
     }
-}
-
-// A clear that names no cause.
-fn causeless(e: Event) -> bool
-    ensures { λ r. ⌜ r ≡ causeless e ⌝ }
-{
-    if let Event::Clear(_, cause) = e {
-        return cause == 0;
-    }
-    false
 }
 
 // Who holds a connection, or awaits one, is still heard after the close.
@@ -88,7 +77,7 @@ fn numbers_spent(kind: u8, generation: u32, next_id: u32) -> bool
 pub fn common_verdict(clock: u64, next_id: u32, m: Status, time: u64, e: Event) -> Common
     ensures { λ r. ⌜ r ≡ commonVerdict clock «next_id» m time e ⌝ }
 {
-    if causeless(e) {
+    if reading::causeless(e) {
         return Common::Refuse(Refusal::Malformed);
     }
     if time < clock {

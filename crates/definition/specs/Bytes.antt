@@ -26,6 +26,13 @@ at8 l i = at4 l i * 4294967296 + at4 l (i + 4)
 
 -- ── Frames ─────────────────────────────────────────────────────────────────────────────────────────────────────────────
 
+-- a frame in bytes, and as a line of a day: two digits a byte, and a newline
+abbrev pub frameLength : ℕ
+frameLength = 24
+
+abbrev pub dayLineLength : ℕ
+dayLineLength = 2 * frameLength + 1
+
 -- a byte each for the kind, the flags and two zeros, then the id in 4 and the two times in 8 each
 unfoldable pub frameBytes : Event → (now : ℕ) → List ℕ
 frameBytes e now = partsOf e .kind ∷ partsOf e .flags ∷ 0 ∷ 0 ∷ (be4 (partsOf e .id) ++ (be8 now ++ be8 (partsOf e .second)))
@@ -77,7 +84,7 @@ frameOfFields kind flags id now second =
 -- any bytes are a frame, if only a bad one
 unfoldable pub frameOf : List ℕ → Frame
 frameOf b =
-    need (length b =? 24) (need (getD b 2 0 =? 0) (need (getD b 3 0 =? 0)
+    need (length b =? frameLength) (need (getD b 2 0 =? 0) (need (getD b 3 0 =? 0)
     (frameOfFields (getD b 0 0) (getD b 1 0) (at4 b 4) (at8 b 8) (at8 b 16))))
 
 -- ── Options ────────────────────────────────────────────────────────────────────────────────────────────────────────────
@@ -88,7 +95,7 @@ optionsBytes o = 0 ∷ 0 ∷ 0 ∷ 0 ∷ (be4 (o .maximum) ++ (be4 (o .minimum) 
 
 unfoldable pub optionsOf : List ℕ → Option Options
 optionsOf b =
-    if length b =? 24
+    if length b =? frameLength
     then (if at4 b 0 =? 0 then some (record { maximum = at4 b 4; minimum = at4 b 8; connecting = at4 b 12; idle = at8 b 16 }) else none)
     else none
 
@@ -142,7 +149,7 @@ lineOf bs = hexOf bs ++ newline ∷ []
 
 -- the bytes of a line of 48 digits and a newline
 unfoldable pub bytesOf : List ℕ → Option (List ℕ)
-bytesOf l = if length l =? 49 then (if getD l 48 0 =? newline then unhex (take 48 l) else none) else none
+bytesOf l = if length l =? dayLineLength then (if getD l 48 0 =? newline then unhex (take 48 l) else none) else none
 
 abbrev pub orBad : Option (List ℕ) → Frame
 orBad none = Bad

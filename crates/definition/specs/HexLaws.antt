@@ -10,7 +10,7 @@ use lib.ListN.{length, getD, drop, take, drop-of-length-le, length-append}
 use lib.Seq.{drop-cons}
 use borrow.Author.Tests.{ltb-true, ltb-false, lt-ltb, le-ltb}
 use Rattle.definition.specs.Words.{if_then_else_, _<?_}
-use Rattle.definition.specs.Bytes.{digitOf, valueOf, hexOf, unhex, paired, be4, be8, at4, at8}
+use Rattle.definition.specs.Bytes.{digitOf, valueOf, hexOf, lineOf, unhex, paired, be4, be8, at4, at8}
 
 -- a digit and its number
 pub record Digit (c v : ℕ) : Type 0 where
@@ -100,6 +100,10 @@ pub length-hexOf : (l : List ℕ) → length (hexOf l) ≡ 2 * length l
 unfolding hexOf
 length-hexOf [] = refl
 length-hexOf (b ∷ l) = let h = length-hexOf l in omega arith
+
+pub length-lineOf : (l : List ℕ) → length (lineOf l) ≡ 2 * length l + 1
+unfolding lineOf
+length-lineOf l = length-append (hexOf l) (10 ∷ []) ∙ omega (arith, length-hexOf l)
 
 -- at a place of a list of bytes stands a byte
 pub getD-small : {l : List ℕ} → Bytes l → (k : ℕ) → getD l k 0 < 256

@@ -10,7 +10,8 @@ use borrow.Author.Tests.{eqb-true}
 use Rattle.definition.specs.Words.{if_then_else_, _=?_}
 use Rattle.definition.specs.Pool.{Conn, find, stateNo, stateOfNo}
 use Rattle.definition.specs.Refusals.{Test, _if_, first}
-use Rattle.definition.specs.Types.{PinnedState, InUse, Returned, Purpose, Request, Background, ConnectionState, Vacant, CheckedIn, CheckedOut, Pinned, Pending, Refusal}
+use Rattle.definition.specs.Steps.{kindNo}
+use Rattle.definition.specs.Types.{Event, CheckOut, WarmPool, Abandon, CheckIn, Clear, MarkAsReady, Succeeded, SucceededForPool, Failed, Maintenance, FillPool, Pin, ReturnToPinner, TakeFromPinner, Close, PinnedState, InUse, Returned, Purpose, Request, Background, ConnectionState, Vacant, CheckedIn, CheckedOut, Pinned, Pending, Refusal}
 
 found : (n : ℕ) (c d : Conn) (b : Bool) → (c .id =? n) ≡ b → d .id ≡ n → (if b then c else d) .id ≡ n
 unfolding if_then_else_
@@ -52,3 +53,21 @@ not-first r false ts e = (refl, e)
 pub no-length : {A : Type 0} (l : List A) → length l ≡ 0 → l ≡ []
 no-length [] h = refl
 no-length (x ∷ l) h = absurd (omega arith)
+
+-- 5 is the number of a clear alone
+pub not-clear : (e : Event) → ((t : Bool) (c : ℕ) → e ≡ Clear t c → ⊥) → (kindNo e =? 5) ≡ false
+not-clear (CheckOut n) h = refl
+not-clear (WarmPool n) h = refl
+not-clear (Abandon n) h = refl
+not-clear (CheckIn n er ex t) h = refl
+not-clear (Clear t c) h = absurd (h t c refl)
+not-clear MarkAsReady h = refl
+not-clear (Succeeded n) h = refl
+not-clear (SucceededForPool n t) h = refl
+not-clear (Failed n) h = refl
+not-clear Maintenance h = refl
+not-clear FillPool h = refl
+not-clear (Pin n) h = refl
+not-clear (ReturnToPinner n) h = refl
+not-clear (TakeFromPinner n) h = refl
+not-clear Close h = refl

@@ -8,10 +8,12 @@ pub mod Steps
 pub mod Refusals
 pub mod Bytes
 pub mod Day
+pub mod Writing
 pub mod Limits
 pub mod Laws
 pub mod HexLaws
 pub mod RoundTrip
+pub mod DayRoundTrip
 pub mod Cases
 pub mod Log
 pub mod Sentences

@@ -98,6 +98,11 @@ kindTests p Close now = []
 abbrev pub causeless : Event → Bool
 causeless e = kindNo e =? 5 && partsOf e .id =? 0
 
+-- 2, whatever the pool: what is no event, or a clear that names no cause
+abbrev pub malformed : Frame → Bool
+malformed Bad = true
+malformed (Good e now) = causeless e
+
 -- 4: after the close only what happens to a connection that is out, or on its way, is heard
 abbrev pub takenAfterClose : Event → Bool
 takenAfterClose e = kindNo e =? 4 || 7 to 9 holds kindNo e || 12 to 14 holds kindNo e

@@ -90,7 +90,7 @@ line-good bs h n =
     let g : getD (hexOf bs ++ 10 ∷ []) 48 0 ≡ 10 = getD-at (hexOf bs) 10 [] 0 48 l in
     rw (m, g, take-at (hexOf bs) (10 ∷ []) 48 l) (unhex-hexOf h)
 
-frame-length : (e : Event) (now : ℕ) → length (frameBytes e now) ≡ 24
+pub frame-length : (e : Event) (now : ℕ) → length (frameBytes e now) ≡ 24
 unfolding frameBytes
 frame-length e now = refl
 
@@ -257,13 +257,13 @@ options-good : (o : Options) → Storable o → optionsOf (optionsBytes o) ≡ s
 unfolding optionsOf optionsBytes at4 at8 if_then_else_
 options-good o s = rw (at4-be4 (o .maximum) (s .maximum), at4-be4 (o .minimum) (s .minimum), at4-be4 (o .connecting) (s .connecting), at8-be8 (o .idle) (s .idle))
 
-options-bytes : (o : Options) → Bytes (optionsBytes o)
+pub options-bytes : (o : Options) → Bytes (optionsBytes o)
 unfolding optionsBytes
 options-bytes o =
     more8 0 (omega arith) (more8 0 (omega arith) (more8 0 (omega arith) (more8 0 (omega arith)
     (be4-bytes (o .maximum) (be4-bytes (o .minimum) (be4-bytes (o .connecting) (be8-bytes (o .idle) none8)))))))
 
-options-length : (o : Options) → length (optionsBytes o) ≡ 24
+pub options-length : (o : Options) → length (optionsBytes o) ≡ 24
 unfolding optionsBytes
 options-length o = refl
 

@@ -13,6 +13,11 @@ pub const RECORD: usize = 16;
 
 pub const LINE: usize = 2 * RECORD + 1;
 
+// A frame in bytes, and as a line of a day.
+pub const FRAME: usize = 24;
+
+pub const DAY_LINE: usize = 2 * FRAME + 1;
+
 // The room that any event's records fit in. Closing writes most: one for each connection and each waiter, and one more. The
 // room is the next power of two, which the constants between find by filling all bits below the highest.
 const NEEDED: usize = RECORD * (SLOTS + QUEUE + 1) - 1;

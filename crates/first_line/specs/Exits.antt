@@ -11,13 +11,13 @@ use Rattle.definition.specs.Pool.{withDefaults, inRange}
 use Rattle.definition.specs.Records.{logLineLength}
 use Rattle.definition.specs.Bytes.{recordBytes}
 use Rattle.definition.specs.Day.{RefusedLine, entryBytes}
+use Rattle.definition.specs.HexLaws.{length-lineOf}
 use Rattle.definition.specs.declared.Options.{Options}
 use Rattle.definition.specs.declared.Refusal.{Refusal}
 use Rattle.definition.specs.declared.Refusal.the-variants.{Malformed, OptionsOutOfRange}
 use Rattle.slots.specs.View.{SlotPool}
 use Rattle.refinement.specs.Alike.{freshHead, freshSlots}
 use Rattle.refinement.specs.Formed.{overBlank, fresh-parts, fresh-formed}
-use Rattle.printing.specs.Printed.{length-lineOf}
 use Rattle.first_line.specs.declared.Pace.{Pace}
 use Rattle.first_line.specs.Took.{Took, quiet}
 use Rattle.first_line.specs.OnSlots.{Play, refusedLine, options, ready, badly}
@@ -30,7 +30,7 @@ lined-quiet s b a = record { state = refl; written = refl; few = omega arith; la
 
 pub length-refused : (r : Refusal) (line : ℕ) → length (refusedLine r line) ≡ logLineLength
 unfolding entryBytes recordBytes
-length-refused r line = length-lineOf (entryBytes (RefusedLine r line)) refl
+length-refused r line = length-lineOf (entryBytes (RefusedLine r line))
 
 -- ── The options line ───────────────────────────────────────────────────────────────────────────────────────────────────────
 

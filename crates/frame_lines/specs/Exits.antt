@@ -47,7 +47,7 @@ module _ (x : Outcome) (l : List ℕ) (line : ℕ) (b a : List ℕ) where
       → Said (saidOf x l line) b a (n * logLineLength)
   said-records n k h m e =
       let few : n ≤ roomRecords = few-records x n k h in
-      let long : length (printed n l) ≡ logLineLength * n = length-printed n l (omega arith) in
+      let long : length (printed n l) ≡ logLineLength * n = length-printed 16 n l (omega arith) in
       let s : n * logLineLength ≡ logLineLength * n = omega arith in
       subst (λ (y : Outcome). Said (saidOf y l line) b a (n * logLineLength)) (sym k)
       (record { written = omega arith; few = omega arith; laid = e ∙ ap (λ (j : ℕ). printed n l ++ drop j b) (sym s) })

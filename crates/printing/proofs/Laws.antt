@@ -1,15 +1,13 @@
--- One turn and the end of each loop, over variables.
+-- One turn and the end of the loop over digits, and the end of a line, over variables.
 use mathlib.Core.Path.{_≡_, refl, sym, ap, _∙_}
 use mathlib.Core.List.{List, [], _∷_, _++_, append-assoc}
-use Prim.Native.Nat.{ℕ, suc, _+_, _*_, _-_, _/_, _%_, _≤_, _<_}
+use Prim.Native.Nat.{ℕ, suc, _+_, _*_, _/_, _%_, _≤_, _<_}
 use native.Mathlib.Numerals.{add-one}
 use native.Mathlib.Omega.{arith}
-use lib.ListN.{length, take, drop, getD, set, length-append, length-take, length-drop, length-set}
+use lib.ListN.{length, take, drop, getD, set, length-append, length-take, length-set}
 use lib.Seq.{drop-cons, take-suc, set-at, append-snoc, take-all}
 use Rattle.definition.specs.Bytes.{digitOf, hexOf, lineOf}
 use Rattle.definition.specs.HexLaws.{length-hexOf}
-use Rattle.big_endian.specs.Laws.{tail-more}
-use Rattle.printing.specs.Printed.{printed, printed-more, length-printed}
 
 -- ── Digits ──
 
@@ -60,43 +58,11 @@ module _ (s o₀ o : List ℕ) (i : ℕ) (e : Encoding s o₀ o i) where
 
 -- ── Lines ──
 
-pub line-end : (bs o x : List ℕ) → length bs ≡ 16 → 33 ≤ length o → x ≡ hexOf bs ++ drop (2 * length bs) o → set x 32 10 ≡ lineOf bs ++ drop 33 o
+pub line-end : (bs o x : List ℕ) → 2 * length bs + 1 ≤ length o → x ≡ hexOf bs ++ drop (2 * length bs) o
+    → set x (length bs * 2) 10 ≡ lineOf bs ++ drop (2 * length bs + 1) o
 unfolding lineOf
-line-end bs o x n h e =
-    let m : 2 * length bs ≡ 32 = omega arith in
-    let d : drop 32 o ≡ getD o 32 0 ∷ drop 33 o = drop-cons o 32 0 (omega arith) in
-    rw (e, m, d, set-at (hexOf bs) (getD o 32 0) (drop 33 o) 10 32 (length-hexOf bs ∙ m)) (sym (append-assoc (hexOf bs) (10 ∷ []) (drop 33 o)))
-
--- one line more: it is laid at the front of the tail behind the first i
-line-laid : (s o l y : List ℕ) (i k : ℕ) → 16 * i ≤ length s → k ≡ 16 → l ≡ printed i s ++ drop (33 * i) o
-    → y ≡ lineOf (take k (drop (i * 16) s)) ++ drop 33 (take (length l - i * 33) (drop (i * 33) l))
-    → take (i * 33) l ++ (y ++ drop (length l - i * 33) (drop (i * 33) l)) ≡ printed (i + 1) s ++ drop (33 * (i + 1)) o
-line-laid s o l y i k h z e q =
-    let r : List ℕ = lineOf (take k (drop (i * 16) s)) in
-    let a : 33 * i ≡ i * 33 = omega arith in
-    let b : 16 * i ≡ i * 16 = omega arith in
-    let d : i * 33 + 33 ≡ 33 * (i + 1) = omega arith in
-    let p : printed (i + 1) s ≡ printed i s ++ r = ap (λ (j : ℕ). printed j s) (add-one i) ∙ printed-more i s ∙ rw (b, z) in
-    tail-more (i * 33) 33 (printed i s) r o l y (length-printed i s h ∙ a) (e ∙ rw a) q ∙ rw (p, d)
-
-length-laid : (s o l : List ℕ) (n : ℕ) → 16 * n ≤ length s → 33 * n ≤ length o → l ≡ printed n s ++ drop (33 * n) o → length l ≡ length o
-length-laid s o l n h k e =
-    ap length e ∙ length-append (printed n s) (drop (33 * n) o) ∙ omega (arith, length-printed n s h, length-drop (33 * n) o)
-
--- before turn i: the first i of n lines stand at the front of o, which was o₀
-pub record Printing (s o₀ o : List ℕ) (n i : ℕ) : Type 0 where
-  pub low : i ≤ n
-  pub long : length o ≡ length o₀
-  pub front : o ≡ printed i s ++ drop (33 * i) o₀
-
-module _ (s o₀ o : List ℕ) (n i : ℕ) (e : Printing s o₀ o n i) where
-  pub printing-more : (y : List ℕ) (k : ℕ) → i < n → 16 * n ≤ length s → 33 * n ≤ length o₀ → k ≡ 16
-      → y ≡ lineOf (take k (drop (i * 16) s)) ++ drop 33 (take (length o - i * 33) (drop (i * 33) o))
-      → Printing s o₀ (take (i * 33) o ++ (y ++ drop (length o - i * 33) (drop (i * 33) o))) n (i + 1)
-  printing-more y k h a b z q =
-      let o' : List ℕ = take (i * 33) o ++ (y ++ drop (length o - i * 33) (drop (i * 33) o)) in
-      let m : o' ≡ printed (i + 1) s ++ drop (33 * (i + 1)) o₀ = line-laid s o₀ o y i k (omega arith) z (e .front) q in
-      record { low = omega arith; long = length-laid s o₀ o' (i + 1) (omega arith) (omega arith) m; front = m }
-
-  pub printing-end : n ≤ i → o ≡ printed n s ++ drop (33 * n) o₀
-  printing-end h = let d : i ≡ n = omega (arith, e .low) in e .front ∙ rw d
+line-end bs o x h e =
+    let n : ℕ = 2 * length bs in
+    let m : length bs * 2 ≡ n = omega arith in
+    let d : drop n o ≡ getD o n 0 ∷ drop (suc n) o = drop-cons o n 0 (omega arith) in
+    rw (e, m, add-one n, d, set-at (hexOf bs) (getD o n 0) (drop (suc n) o) 10 n (length-hexOf bs)) (sym (append-assoc (hexOf bs) (10 ∷ []) (drop (suc n) o)))

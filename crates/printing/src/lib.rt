@@ -1,7 +1,7 @@
 // Records printed as lines, each function equal to the definition's.
 ghost use mathlib.Core.Path.{_≡_};
 ghost use mathlib.Core.List.{_++_};
-ghost use Prim.Native.Nat.{_*_, _≤_, _<_};
+ghost use Prim.Native.Nat.{_+_, _*_, _≤_, _<_};
 ghost use lib.ListN.{length, drop};
 ghost use Rattle.definition.specs.Bytes.{digitOf, hexOf, lineOf};
 ghost use Rattle.printing.specs.Printed.{printed};
@@ -28,13 +28,13 @@ fn encode(s: &[u8], o: &mut [u8])
     }
 }
 
-// A record of 16 bytes as a line at the front of o.
-pub fn print_record(s: &[u8], o: &mut [u8])
-    requires { ⌜ (length (now s) ≡ 16) × (33 ≤ length (now o)) ⌝ }
-    ensures { λ _. ⌜ now (o .exit) ≡ lineOf (now (s .entry)) ++ drop 33 (now (o .entry)) ⌝ }
+// The line of s at the front of o.
+pub fn print_line(s: &[u8], o: &mut [u8])
+    requires { ⌜ 2 * length (now s) + 1 ≤ length (now o) ⌝ }
+    ensures { λ _. ⌜ now (o .exit) ≡ lineOf (now (s .entry)) ++ drop (2 * length (now (s .entry)) + 1) (now (o .entry)) ⌝ }
 {
     encode(s, o);
-    o[32] = 10;
+    o[s.len() * 2] = 10;
 }
 
 // The first n records of s as lines at the front of o.
@@ -47,7 +47,7 @@ pub fn print_records(s: &[u8], n: usize, o: &mut [u8])
         let from = i * 16;
         let to = from + 16;
         let at = i * 33;
-        print_record(&s[from..to], &mut o[at..]);
+        print_line(&s[from..to], &mut o[at..]);
         i += 1;
     }
 }

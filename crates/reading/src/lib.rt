@@ -1,6 +1,7 @@
 // Frames, options and lines read, each function equal to the definition's.
 ghost use mathlib.Core.Path.{_≡_};
 ghost use Rattle.definition.specs.Bytes.{plain, bare, checkInFrame, clearFrame, frameOfFields, frameOf, optionsOf, frameOfLine, optionsOfLine};
+ghost use Rattle.definition.specs.Refusals.{causeless, malformed};
 ghost use Rattle.reading.specs.Given.{optionsIn};
 use big_endian::u32_at;
 use big_endian::u64_at;
@@ -96,6 +97,26 @@ pub fn frame_of(b: &[u8]) -> Frame
         return Frame::Bad;
     }
     fields_frame(b[0], b[1], u32_at(b, 4), u64_at(b, 8), u64_at(b, 16))
+}
+
+// A clear that names no cause.
+pub fn causeless(e: Event) -> bool
+    ensures { λ r. ⌜ r ≡ causeless e ⌝ }
+{
+    if let Event::Clear(_, cause) = e {
+        return cause == 0;
+    }
+    false
+}
+
+// What no pool takes, whatever its state.
+pub fn malformed(f: Frame) -> bool
+    ensures { λ r. ⌜ r ≡ malformed f ⌝ }
+{
+    match f {
+        Frame::Good(e, _) => causeless(e),
+        Frame::Bad => true,
+    }
 }
 
 // ── Options ──

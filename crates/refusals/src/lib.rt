@@ -43,5 +43,5 @@ pub fn print_refusal(r: Refusal, line: u32, o: &mut [u8])
     ensures { λ _. ⌜ now (o .exit) ≡ lineOf (recordBytes 0 (fields 32 (refusalNo r) line 0)) ++ drop 33 (now (o .entry)) ⌝ }
 {
     let b = refusal_record(refusal_number(r), line);
-    printing::print_record(&b, o);
+    printing::print_line(&b, o);
 }

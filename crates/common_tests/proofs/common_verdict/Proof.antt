@@ -5,7 +5,7 @@ use Rattle.common_tests.proofs.common_verdict.Tie as tie
 use Rattle.common_tests.proofs.common_verdict.Reads as reads
 use Rattle.common_tests.proofs.common_verdict.Lts as lts
 use Rattle.conditions.proofs.is_closed.Reads as is-closed-reads
-use Rattle.common_tests.proofs.causeless.Reads as causeless-reads
+use Rattle.reading.proofs.causeless.Reads as causeless-reads
 use Rattle.common_tests.proofs.kind_no.Reads as kind-no-reads
 use Rattle.common_tests.proofs.numbers_spent.Reads as numbers-spent-reads
 use Rattle.common_tests.proofs.taken_after_close.Reads as taken-after-close-reads

@@ -11,18 +11,18 @@ refusal-number-requires c κs = search needs
 refusal-record-requires : tie.Need-refusal-record-requires
 refusal-record-requires c κs = search needs
 
-slice-aggregate-print-record : tie.Need-slice-aggregate-print-record
-slice-aggregate-print-record c = search needs
+slice-aggregate-print-line : tie.Need-slice-aggregate-print-line
+slice-aggregate-print-line c = search needs
 
-print-record-requires : tie.Need-print-record-requires
-print-record-requires c κs = search needs
+print-line-requires : tie.Need-print-line-requires
+print-line-requires c κs = search needs
 
 same-length : tie.Need-same-length
 same-length c = search needs
 
 returns : tie.Need-returns
 returns c =
-    let w = c .before .before .print-record in
+    let w = c .before .before .print-line in
     let r = c .before .before .before .before .before in
     let n = r .before in
     let a = n .before .before .args in
@@ -35,7 +35,7 @@ print-refusal-spec =
     (tie.spec
     refusal-number-requires
     refusal-record-requires
-    slice-aggregate-print-record
-    print-record-requires
+    slice-aggregate-print-line
+    print-line-requires
     same-length
     returns)

@@ -1,11 +1,11 @@
 use mathlib.Core.List.{[], _∷_}
 use types.Run.{miss}
-use Rattle.common_tests.specs.Laws.{not-clear}
+use Rattle.definition.specs.Laws.{not-clear}
 use borrow.Author.Needs.{needs}
-use Rattle.common_tests.proofs.causeless.Statement.{statement}
-use Rattle.common_tests.proofs.causeless.Tie as tie
-use Rattle.common_tests.proofs.causeless.Reads as reads
-use Rattle.common_tests.proofs.causeless.Lts as lts
+use Rattle.reading.proofs.causeless.Statement.{statement}
+use Rattle.reading.proofs.causeless.Tie as tie
+use Rattle.reading.proofs.causeless.Reads as reads
+use Rattle.reading.proofs.causeless.Lts as lts
 
 enum-known-e : tie.Need-enum-known-e
 enum-known-e c = search needs

@@ -1,0 +1,50 @@
+use Prim.Native.Nat.{_≤_, _-_}
+use lib.ListN.{length}
+use borrow.Author.Needs.{needs}
+use Rattle.writer_main.proofs.is_filled.Statement.{statement}
+use Rattle.writer_main.proofs.is_filled.Tie as tie
+
+abbrev Inv-loop : tie.InvT-loop
+Inv-loop out from i₀ i = from ≤ i
+
+abbrev μ-loop : tie.MeasureT-loop
+μ-loop out from i₀ i = length out - i
+
+loop-holds : tie.Need-loop-holds Inv-loop μ-loop
+loop-holds c = search needs
+
+shared-slice-read-if1 : tie.Need-shared-slice-read-if1 Inv-loop μ-loop
+shared-slice-read-if1 c = search needs
+
+pattern-requires : tie.Need-pattern-requires Inv-loop μ-loop
+pattern-requires c κs = search needs
+
+returns : tie.Need-returns Inv-loop μ-loop
+returns c = search needs
+
+add-i : tie.Need-add-i Inv-loop μ-loop
+add-i c = search needs
+
+loop-less : tie.Need-loop-less Inv-loop μ-loop
+loop-less c = search needs
+
+loop-again : tie.Need-loop-again Inv-loop μ-loop
+loop-again c = search needs
+
+returns-2 : tie.Need-returns-2 Inv-loop μ-loop
+returns-2 c = search needs
+
+pub is-filled-spec : {M : Type 1} → statement M
+is-filled-spec =
+    tie.close
+    (tie.spec
+    Inv-loop
+    μ-loop
+    loop-holds
+    shared-slice-read-if1
+    pattern-requires
+    returns
+    add-i
+    loop-less
+    loop-again
+    returns-2)

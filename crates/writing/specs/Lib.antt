@@ -1,0 +1,3 @@
+pub mod Writes
+pub mod Laws
+pub mod RoundTrip

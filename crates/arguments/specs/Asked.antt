@@ -1,55 +1,20 @@
 -- What a word asks of a replay.
 use mathlib.Core.Path.{_≡_}
-use mathlib.Core.Bool.{Bool, true, false, _&&_}
+use mathlib.Core.Bool.{Bool, true, false}
 use mathlib.Core.List.{List, [], _∷_}
-use mathlib.Core.Option.{Option, none, some}
 use mathlib.Core.Logic.{_⊎_}
-use Prim.Native.Nat.{ℕ, _+_, _-_, _*_}
+use Prim.Native.Nat.{ℕ, _+_}
 use lib.ListN.{length}
-use Rattle.definition.specs.Words.{if_then_else_, _=?_, _≤?_}
+use Rattle.definition.specs.Words.{if_then_else_, _=?_}
 use Rattle.arguments.specs.declared.Asked.{Asked}
-use Rattle.arguments.specs.declared.Number.{Number}
+use Rattle.spelling.specs.declared.Number.{Number}
+use Rattle.spelling.specs.Spelling.{most, decimal, numberOf, same, spelt}
 
--- the largest number of 64 bits
-abbrev pub most : ℕ
-most = 18446744073709551615
-
-abbrev pub digit? : ℕ → Bool
-digit? c = (48 ≤? c) && (c ≤? 57)
-
--- digits behind a number so far
-unfoldable pub digits : (v : ℕ) → List ℕ → Option ℕ
-digits v [] = some v
-digits v (c ∷ l) = if digit? c then digits (v * 10 + (c - 48)) l else none
-
-unfoldable pub allDigits : List ℕ → Bool
-allDigits [] = true
-allDigits (c ∷ l) = if digit? c then allDigits l else false
-
--- a number in decimal, of any size
-unfoldable pub decimal : List ℕ → Option ℕ
-decimal w = if length w =? 0 then none else digits 0 w
-
-abbrev pub noNumber : (large : Bool) → Number
-noNumber large = record { good = false; «is_large» = large; value = 0 }
-
--- and whether it fits
-abbrev pub numberOf : Option ℕ → Number
-numberOf none = noNumber false
-numberOf (some n) = if n ≤? most then record { good = true; «is_large» = false; value = n } else noNumber true
-
-unfoldable pub same : List ℕ → List ℕ → Bool
-same [] [] = true
-same [] (y ∷ b) = false
-same (x ∷ a) [] = false
-same (x ∷ a) (y ∷ b) = if x =? y then same a b else false
-
--- --budget and --used
 abbrev pub budgetWord : List ℕ
-budgetWord = 45 ∷ 45 ∷ 98 ∷ 117 ∷ 100 ∷ 103 ∷ 101 ∷ 116 ∷ []
+budgetWord = spelt "--budget"
 
 abbrev pub usedWord : List ℕ
-usedWord = 45 ∷ 45 ∷ 117 ∷ 115 ∷ 101 ∷ 100 ∷ []
+usedWord = spelt "--used"
 
 module _ (a : Asked) where
   -- the budget's number

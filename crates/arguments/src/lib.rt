@@ -1,79 +1,6 @@
 // What the arguments of a replay ask: [--budget N] [--used] [FILE].
 ghost use mathlib.Core.Path.{_≡_};
-ghost use Prim.Native.Nat.{_≤_};
-ghost use lib.ListN.{length, drop};
-ghost use Rattle.arguments.specs.Asked.{allDigits, decimal, noNumber, numberOf, asked, Takes, Reads};
-
-// Where `good`, a number; where `is_large`, one above 64 bits.
-struct Number {
-    good: bool,
-    is_large: bool,
-    value: u64,
-}
-
-// Whether a word has digits only, from a place on.
-fn only_digits(word: &[u8], from: usize) -> bool
-    requires { ⌜ from ≤ length (now word) ⌝ }
-    ensures { λ r. ⌜ r ≡ allDigits (drop from (now (word .entry))) ⌝ }
-{
-    let mut i = from;
-    while i < word.len() {
-        let c = word[i];
-        if c < 48 {
-            return false;
-        }
-        if 57 < c {
-            return false;
-        }
-        i += 1;
-    }
-    true
-}
-
-fn no_number(is_large: bool) -> Number
-    ensures { λ r. ⌜ r ≡ noNumber «is_large» ⌝ }
-{
-    Number {
-        good: false,
-        is_large: is_large,
-        value: 0,
-    }
-}
-
-// A word in decimal, where it is a number that fits.
-fn number_of(word: &[u8]) -> Number
-    ensures { λ r. ⌜ r ≡ numberOf (decimal (now (word .entry))) ⌝ }
-{
-    let mut v: u64 = 0;
-    let mut i: usize = 0;
-    while i < word.len() {
-        let c = word[i];
-        if c < 48 {
-            return no_number(false);
-        }
-        if 57 < c {
-            return no_number(false);
-        }
-        if 1844674407370955161 < v {
-            return no_number(only_digits(word, i));
-        }
-        let d = (c - 48) as u64;
-        let tens = v * 10;
-        if 18446744073709551615 - d < tens {
-            return no_number(only_digits(word, i));
-        }
-        v = tens + d;
-        i += 1;
-    }
-    if word.len() == 0 {
-        return no_number(false);
-    }
-    Number {
-        good: true,
-        is_large: false,
-        value: v,
-    }
-}
+ghost use Rattle.arguments.specs.Asked.{asked, Takes, Reads};
 
 // What the words so far ask: the budget, whether the frames used are told, and which argument is the file, 0 for none; and
 // whether the budget's number comes next. Where not `good`, whether the number was too large.
@@ -92,7 +19,7 @@ fn take_word(a: Asked, i: usize, word: &[u8]) -> Asked
 {
     let mut r = a;
     if r.is_number {
-        let n = number_of(word);
+        let n = spelling::number_of(word);
         r.budget = n.value;
         r.good = n.good;
         r.is_large = n.is_large;

@@ -2,40 +2,13 @@
 // step writes goes out before the next. Bytes are counted on both sides, so that a contract can tell one left out or written twice.
 ghost use mathlib.Core.Bool.{true};
 ghost use mathlib.Core.Path.{_≡_};
-ghost use Prim.Native.Nat.{_+_, _≤_};
+ghost use Prim.Native.Nat.{_≤_};
 ghost use lib.ListN.{length};
 ghost use Rattle.first_line.specs.Took.{lineRoom};
 ghost use Rattle.session.specs.Code.{Ready};
 ghost use Rattle.stream.specs.Streams.{Drains, Ends, Plays};
-use libc::STDOUT_FILENO;
+use sending::put;
 use session::Session;
-
-// Where `good`, all went out, and so many bytes did in all.
-struct Sent {
-    pub good: bool,
-    pub count: u64,
-}
-
-// The bytes go to standard output, behind `before` others. Nothing else writes a log. No run writes more than a count can tell.
-fn put(before: u64, bytes: &[u8]) -> Sent
-    ensures { λ r. ⌜ (r .good ≡ true → r .count ≡ before + length (now (bytes .entry))) ⌝ }
-{
-    let n = bytes.len() as u64;
-    if n <= u64::MAX - before {
-        let count = before + n;
-        if io::write_all(STDOUT_FILENO, bytes) {
-            return Sent {
-                good: true,
-                count: count,
-            };
-        }
-    }
-    os::fail(b"standard output");
-    Sent {
-        good: false,
-        count: before,
-    }
-}
 
 // What a piece of the text leaves.
 struct Drained {

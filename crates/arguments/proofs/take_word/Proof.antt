@@ -1,14 +1,16 @@
 use mathlib.Core.Path.{_≡_, sym, _∙_}
 use mathlib.Core.Bool.{false}
 use denote.Ref.{now}
-use Rattle.arguments.specs.Asked.{budgetWord, usedWord, same}
-use Rattle.arguments.specs.Laws.{same-word, asked-number, asked-budget, asked-used, asked-file, asked-bad}
+use Rattle.spelling.specs.Spelling.{same}
+use Rattle.spelling.specs.Laws.{same-word}
+use Rattle.arguments.specs.Asked.{budgetWord, usedWord}
+use Rattle.arguments.specs.Laws.{asked-number, asked-budget, asked-used, asked-file, asked-bad}
 use borrow.Author.Needs.{needs}
 use Rattle.arguments.proofs.take_word.Statement.{statement}
 use Rattle.arguments.proofs.take_word.Tie as tie
 use Rattle.arguments.proofs.take_word.Reads as reads
 use Rattle.arguments.proofs.take_word.Lts as lts
-use Rattle.arguments.proofs.number_of.Reads as number-of-reads
+use Rattle.spelling.proofs.number_of.Reads as number-of-reads
 use Rattle.check.proofs.same.Reads as same-reads
 
 abbrev start : tie.After-same2 → tie.Start

@@ -14,7 +14,7 @@ use Rattle.stream.proofs.drain.Tie as tie
 use Rattle.stream.proofs.drain.Reads as reads
 use Rattle.stream.proofs.drain.Lts as lts
 use Rattle.session.proofs.go_on.Reads as go-on-reads
-use Rattle.stream.proofs.put.Reads as put-reads
+use Rattle.sending.proofs.put.Reads as put-reads
 
 abbrev Inv-loop : tie.InvT-loop
 Inv-loop sent text out₀ e s₀ count₀ at₀ out s count at =

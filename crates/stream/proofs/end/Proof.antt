@@ -8,7 +8,7 @@ use Rattle.stream.proofs.end.Tie as tie
 use Rattle.stream.proofs.end.Reads as reads
 use Rattle.stream.proofs.end.Lts as lts
 use Rattle.session.proofs.finish.Reads as finish-reads
-use Rattle.stream.proofs.put.Reads as put-reads
+use Rattle.sending.proofs.put.Reads as put-reads
 
 finish-requires : tie.Need-finish-requires
 finish-requires c κs = search needs

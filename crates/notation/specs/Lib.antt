@@ -1,0 +1,3 @@
+pub mod Notation
+pub mod Laws
+pub mod Good

@@ -1,0 +1,3 @@
+pub mod Wording
+pub mod Held
+pub mod Laws

@@ -10,7 +10,7 @@ use lib.Seq.{take-at, take-add, take-take, take-all}
 use Rattle.definition.specs.Words.{if_then_else_, _<?_, _=?_, any?}
 use Rattle.definition.specs.Booleans.{by-bool, by-eq}
 use Rattle.definition.specs.Bytes.{newline}
-use Rattle.newlines.specs.Newlines.{lineLen, len-true, len-false, len-positive}
+use Rattle.newlines.specs.Newlines.{lineLen, len-true, len-false, len-positive, len-low}
 use Rattle.notation.specs.declared.Said.{Said}
 use Rattle.notation.specs.Notation.{says}
 use Rattle.heading.specs.declared.Heading.{Heading}
@@ -269,16 +269,6 @@ finished d lent r left y m k f =
 pub end-small : (d : Draft) (lent : List ℕ) (r : Step) (left : List ℕ) (g : Heading) (a y : List ℕ) (m : ℕ) → EndsLine d 0 lent r left → Lays (firstLine g) a m y
     → r .written + m < 18446744073709551616
 end-small d lent r left g a y m k f = omega (arith, k .leaves .laid .count, ended-length d, f .count, first-length g)
-
-len-case : (c : ℕ) (t : List ℕ) (b : Bool) → lineLen t ≤ length t → (if b then 1 else suc (lineLen t)) ≤ length (c ∷ t)
-unfolding if_then_else_
-len-case c t true h = omega arith
-len-case c t false h = omega arith
-
-len-low : (t : List ℕ) → lineLen t ≤ length t
-unfolding lineLen
-len-low [] = omega arith
-len-low (c ∷ t) = len-case c t (c =? newline) (len-low t)
 
 -- ── As much as there is room for ───────────────────────────────────────────────────────────────────────────────────────────
 

@@ -5,9 +5,13 @@ ghost use lib.ListN.{length};
 ghost use Rattle.laying.specs.Laying.{lineRoom};
 ghost use Rattle.draft.specs.Draft.{nextLine};
 ghost use Rattle.draft.specs.Steps.{paused, mistake?, endRoom, Ready, Begins, EndsLine, TakesLine, GoesOn, Finishes};
+use definition::DAY_LINE;
 use heading::Heading;
 use heading::Told;
 use wording::Line;
+
+// A line writes two lines at most.
+const LINE_ROOM: usize = 2 * DAY_LINE;
 
 // A day under way: the line under way and its number, and the heading.
 pub struct Draft {
@@ -135,7 +139,7 @@ pub fn go_on(d: Draft, text: &[u8], out: &mut [u8]) -> Step
     let mut at: usize = 0;
     let mut w: usize = 0;
     while at < text.len() {
-        if out.len() - w < 98 {
+        if out.len() - w < LINE_ROOM {
             return paused(draft, at, w);
         }
         let s = take_line(draft, &text[at..], &mut out[w..]);

@@ -60,6 +60,16 @@ len-positive (c ∷ t) h = pick (c =? newline)
     pick true = omega arith
     pick false = omega arith
 
+len-case : (c : ℕ) (t : List ℕ) (b : Bool) → lineLen t ≤ length t → (if b then 1 else suc (lineLen t)) ≤ length (c ∷ t)
+unfolding if_then_else_
+len-case c t true h = omega arith
+len-case c t false h = omega arith
+
+pub len-low : (t : List ℕ) → lineLen t ≤ length t
+unfolding lineLen
+len-low [] = omega arith
+len-low (c ∷ t) = len-case c t (c =? newline) (len-low t)
+
 pub len-true : (c : ℕ) (t : List ℕ) → c =? newline ≡ true → lineLen (c ∷ t) ≡ 1
 unfolding lineLen if_then_else_
 len-true c t e = rw e

@@ -41,21 +41,31 @@ laid-length s lent r left k =
     let p = k .laid in
     ap length (ap (take (r .written)) (p .out) ∙ take-at (s .out) (drop (length (s .out)) lent) (r .written) (sym (p .count)))
 
--- a text, and what a step makes of it from here on
-led-more : (s x b : Text) (m₀ c₀ : ℕ) (d : Draft) (m c : ℕ) (lent : List ℕ) (r : Step) (left : List ℕ) (m' c' : ℕ) → Led s m₀ c₀ d m c → Ahead (s .out) (s .mistakes) x b
-    → Stepped b lent r left → c' ≡ c + length (take (r .written) left) → m' ≡ m + length (faultsTold (r .number) (r .told)) → Led x m₀ c₀ (r .draft) m' c'
-led-more s x b m₀ c₀ d m c lent r left m' c' l a k p q =
+-- a text, and what follows it
+led-on : (s x b : Text) (m₀ c₀ : ℕ) (d : Draft) (m c : ℕ) (d' : Draft) (m' c' : ℕ) → Led s m₀ c₀ d m c → Ahead (s .out) (s .mistakes) x b → Led b m c d' m' c' → Led x m₀ c₀ d' m' c'
+led-on s x b m₀ c₀ d m c d' m' c' l a k =
     let e : length (x .mistakes) ≡ length (s .mistakes) + length (b .mistakes) = ap length (a .mistakes) ∙ length-append (s .mistakes) (b .mistakes) in
     let f : length (x .out) ≡ length (s .out) + length (b .out) = ap length (a .out) ∙ length-append (s .out) (b .out) in
-    let g : length (faultsTold (r .number) (r .told)) ≡ length (b .mistakes) = ap length (k .mistakes) in
     record {
       ready = k .ready;
       reading = k .reading ∙ sym (a .reading);
       line = k .line ∙ sym (a .line);
       heading = k .heading ∙ sym (a .heading);
-      mistakes = omega (arith, q, l .mistakes, e, g);
-      sent = omega (arith, p, l .sent, f, laid-length b lent r left k);
+      mistakes = omega (arith, k .mistakes, l .mistakes, e);
+      sent = omega (arith, k .sent, l .sent, f);
     }
+
+-- what a step leaves, counted
+led-step : (b : Text) (m c : ℕ) (lent : List ℕ) (r : Step) (left : List ℕ) (m' c' : ℕ) → Stepped b lent r left → c' ≡ c + length (take (r .written) left)
+    → m' ≡ m + length (faultsTold (r .number) (r .told)) → Led b m c (r .draft) m' c'
+led-step b m c lent r left m' c' k p q = record {
+  ready = k .ready;
+  reading = k .reading;
+  line = k .line;
+  heading = k .heading;
+  mistakes = q ∙ ap (λ (l : List Fault). m + length l) (k .mistakes);
+  sent = p ∙ ap (λ (i : ℕ). c + i) (laid-length b lent r left k);
+}
 
 pub drains-step : (d₀ : Draft) (m₀ c₀ : ℕ) (t : List ℕ) (d : Draft) (m c at e : ℕ) (lent : List ℕ) (r : Step) (left : List ℕ) (m' c' : ℕ)
     → Drains d₀ m₀ c₀ (take at t) d m c → GoesOn d (take (e - at) (drop at t)) lent r left → r .read ≤ e - at → c' ≡ c + length (take (r .written) left)
@@ -66,7 +76,8 @@ drains-step d₀ m₀ c₀ t d m c at e lent r left m' c' l g h p q =
     let j : take at t ++ u ≡ take (at + r .read) t = ap (λ (x : List ℕ). take at t ++ x) (take-take (r .read) (e - at) (drop at t) h) ∙ sym (take-add at (r .read) t) in
     let z : textTaken s u ≡ textTaken (textOf d₀) (take (at + r .read) t) = sym (taken-append (textOf d₀) (take at t) u) ∙ ap (textTaken (textOf d₀)) j in
     subst (λ (x : Text). Led x m₀ c₀ (r .draft) m' c') z
-    (led-more s (textTaken s u) (textTaken (textOf d) u) m₀ c₀ d m c lent r left m' c' l (follows s d (l .reading) (l .line) (l .heading) u) (g .leaves) p q)
+    (led-on s (textTaken s u) (textTaken (textOf d) u) m₀ c₀ d m c (r .draft) m' c' l (follows s d (l .reading) (l .line) (l .heading) u)
+    (led-step (textTaken (textOf d) u) m c lent r left m' c' (g .leaves) p q))
 
 -- some of a piece was taken, and no more than there is
 pub moved : (t : List ℕ) (at n : ℕ) → at < length t → n ≤ length (take (length t - at) (drop at t)) → (0 < length (take (length t - at) (drop at t)) → 0 < n)
@@ -128,23 +139,12 @@ going-begin d b = record {
 pub going-more : (d : Draft) (got m c : ℕ) (piece : List ℕ) (n : ℕ) (d' : Draft) (m' c' : ℕ) → n ≡ length piece → Going d got m c → Drains d m c piece d' m' c' → Going d' (got + n) m' c'
 going-more d got m c piece n d' m' c' e g l =
     let s : Text = textTaken start (g .text) in
-    let b : Text = textTaken (textOf d) piece in
-    let x : Text = textTaken s piece in
     let a = follows s d (g .led .reading) (g .led .line) (g .led .heading) piece in
-    let p : length (x .mistakes) ≡ length (s .mistakes) + length (b .mistakes) = ap length (a .mistakes) ∙ length-append (s .mistakes) (b .mistakes) in
-    let q : length (x .out) ≡ length (s .out) + length (b .out) = ap length (a .out) ∙ length-append (s .out) (b .out) in
-    let k : length (g .text ++ piece) ≡ length (g .text) + length piece = length-append (g .text) piece in
     record {
       text = g .text ++ piece;
-      read = omega (arith, g .read, k, e);
-      led = subst (λ (y : Text). Led y 0 0 d' m' c') (sym (taken-append start (g .text) piece)) (record {
-        ready = l .ready;
-        reading = l .reading ∙ sym (a .reading);
-        line = l .line ∙ sym (a .line);
-        heading = l .heading ∙ sym (a .heading);
-        mistakes = omega (arith, l .mistakes, g .led .mistakes, p);
-        sent = omega (arith, l .sent, g .led .sent, q);
-      });
+      read = omega (arith, g .read, length-append (g .text) piece, e);
+      led = subst (λ (y : Text). Led y 0 0 d' m' c') (sym (taken-append start (g .text) piece))
+          (led-on s (textTaken s piece) (textTaken (textOf d) piece) 0 0 d m c d' m' c' (g .led) a l);
     }
 
 pub going-end : (d : Draft) (got m c : ℕ) (r : Passed) → Going d got m c → Ends d got m c r → Passes r

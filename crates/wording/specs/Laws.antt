@@ -107,12 +107,6 @@ read-snoc r (x ∷ l) c = read-snoc (reads r x) l c
 read-more : (r : Reading) (b : List ℕ) (i : ℕ) → i < length b → readAll r (take (i + 1) b) ≡ reads (readAll r (take i b)) (getD b i 0)
 read-more r b i h = ap (readAll r) (ap (λ (n : ℕ). take n b) (add-one i) ∙ take-suc b i 0 h) ∙ read-snoc r (take i b) (getD b i 0)
 
--- what is read in two pieces is read in one
-pub read-append : (r : Reading) (a b : List ℕ) → readAll r (a ++ b) ≡ readAll (readAll r a) b
-unfolding readAll
-read-append r [] b = refl
-read-append r (x ∷ a) b = read-append (reads r x) a b
-
 -- a byte is put behind a word, or into the spare cell
 put-front : (w : List ℕ) (n c : ℕ) → n < length w → take (n + 1) (set w n c) ≡ take n w ++ c ∷ []
 put-front w n c h =

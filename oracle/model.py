@@ -17,7 +17,7 @@ FOR_REQUEST, IN_BACKGROUND, AVAILABLE, LENT, IN_USE, RETURNED = range(6)
 
 DEFAULT_MAXIMUM, DEFAULT_MAX_CONNECTING = 10, 2
 LARGEST, QUEUE = 64, 256
-LAST_NEXT_ID, LAST_GENERATION = 4294967168, 4294967295
+LAST_NEXT_ID, LAST_GENERATION, LARGEST_AGE = 4294967168, 4294967295, 4294967295
 IDLE, STALE, ERROR, DROPPED, POOL_CLOSED = 1, 2, 3, 4, 5
 
 LINE = re.compile(rb"[0-9a-f]{48}\n")
@@ -113,8 +113,8 @@ class Pool:
         self.log.append(RECORD.pack(kind, reason, 0, self.serial, number, other))
         self.serial = (self.serial + 1) % 2**32
 
-    def close(self, connection, reason):
-        self.put(4, connection.number, reason=reason)
+    def close(self, connection, reason, other=0):
+        self.put(4, connection.number, other, reason)
         del self.connections[connection.number]
 
     def reply(self, waiter, kind, other=0):
@@ -202,16 +202,8 @@ class Pool:
         self.close(connection, ERROR)
 
     def maintenance(self, flags, number, second, connection):
-        while self.available:
-            first = self.available[0]
-            if self.stale(first):
-                reason = STALE
-            elif self.idle(first):
-                reason = IDLE
-            else:
-                break
-            self.available.popleft()
-            self.close(first, reason)
+        while self.available and (why := self.perished(self.available[0])):
+            self.close(self.available.popleft(), *why)
         if self.state == READY:
             while len(self.connections) < self.minimum and self.pending < self.max_connecting:
                 self.create(IN_BACKGROUND)
@@ -240,8 +232,17 @@ class Pool:
         return connection.generation != self.generation
 
     def idle(self, connection):
-        elapsed = self.clock - connection.available_time
-        return self.idle_limit != 0 and elapsed >= self.idle_limit
+        """Its age, where that reaches the limit, else 0; a limit is at least 1."""
+        age = self.clock - connection.available_time
+        return age if self.idle_limit != 0 and age >= self.idle_limit else 0
+
+    def perished(self, connection):
+        """Why an available one is closed, and what its record then says; nothing of a healthy one."""
+        if self.stale(connection):
+            return STALE, 0
+        if age := self.idle(connection):
+            return IDLE, min(age, LARGEST_AGE)
+        return None
 
     def lent(self, connection):
         return connection.state in (LENT, IN_USE, RETURNED)
@@ -272,10 +273,8 @@ class Pool:
         else:
             while self.available:
                 connection = self.available.pop()
-                if self.stale(connection):
-                    self.close(connection, STALE)
-                elif self.idle(connection):
-                    self.close(connection, IDLE)
+                if why := self.perished(connection):
+                    self.close(connection, *why)
                 else:
                     self.lend(connection, waiter)
                     return

@@ -1,6 +1,8 @@
 //! Everything that the description adds to the Rust: refusals, the end of waiters at close, a
-//! background success after close, the interrupt's count, serials, line numbers and the budget.
-//! README.md lists it.
+//! background success after close, the interrupt's count, the field for an idle one's age, serials,
+//! line numbers and the budget. README.md lists it.
+
+use std::time::Duration;
 
 use crate::{
     harness::{Harness, Held, Seat, Waiting},
@@ -32,6 +34,12 @@ fn options_refusal(options: &Options) -> Option<u8> {
     let max_connecting = or(options.max_connecting, DEFAULT_MAX_CONNECTING);
     let inside = maximum <= LARGEST && options.minimum <= maximum && max_connecting <= LARGEST;
     (!inside).then_some(OPTIONS)
+}
+
+/// What a closed record with reason idle says: the time that the Rust's idle test measured, which the
+/// Rust's own event has no field for.
+pub(crate) fn age(measured: Duration) -> u32 {
+    u32::try_from(measured.as_millis()).unwrap_or(u32::MAX)
 }
 
 /// A pool of the Rust behind the description's refusals.

@@ -99,9 +99,13 @@ struct Temper {
     damaged: u64,
     /// The day's step in time, beside jumps over the idle limit.
     step: u64,
+    /// Some steps are about as long as the largest age that a record can say.
+    long: bool,
     /// A bad frame follows every event, so that the log shows which event gave which records.
     parted: bool,
 }
+
+const LARGEST_AGE: u64 = u32::MAX as u64;
 
 /// The bad frame that parts events: its refusal is all it does.
 const PARTING: &[u8] = b"000000000000000000000000000000000000000000000000\n";
@@ -133,6 +137,7 @@ fn seeded_day(seed: u64, index: u64) -> Vec<u8> {
         wrong: random.pick(&[8, 30, 30, 1000]),
         damaged: random.pick(&[0, 0, 0, 0, 0, 0, 0, 0, 6, 40]),
         step: random.pick(&[1, 1, 2, 3, 10, 100]),
+        long: index % 16 == 15,
         parted: random.one_in(2),
     };
     let options = options(&mut random);
@@ -391,6 +396,9 @@ impl Day {
         options: &Options,
     ) -> u64 {
         let start = pool.clock.max(self.clock_jump);
+        if temper.long && random.one_in(12) {
+            return start.saturating_add(LARGEST_AGE - 2 + random.below(5));
+        }
         let idle = options.idle_limit.min(100_000);
         let step = match random.below(40) {
             0 => idle,
@@ -535,6 +543,7 @@ pub(crate) fn long_day(frames: u64, seed: u64) -> Vec<u8> {
         wrong: u64::MAX,
         damaged: 0,
         step: 3,
+        long: false,
         parted: false,
     };
     let options = Options {

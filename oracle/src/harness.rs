@@ -16,6 +16,7 @@ use tokio::{
 };
 
 use crate::{
+    added::age,
     cmap::{
         conn::{pooled::PooledConnection, PinnedConnectionHandle},
         establish::door::{Answer, ConnectionPoolOptions, ConnectionRequestResult, Door},
@@ -24,7 +25,9 @@ use crate::{
     event::{cmap::ConnectionClosedReason, EventHandler},
     runtime::{AsyncJoinHandle, Run},
     script::{self, Outcome, Seen, Spawned},
-    text::{kind, record, Frame, Options, Record, ERRORED, EXECUTING, NETWORK_TIMEOUT},
+    text::{
+        kind, record, Frame, Options, Record, CLOSED_BY_POOL, ERRORED, EXECUTING, NETWORK_TIMEOUT,
+    },
 };
 
 /// A request without an answer; abandoned where its receiver is gone.
@@ -288,16 +291,23 @@ impl Harness {
             }
             Seen::Ready(id) => of(record::CONNECTION_READY, id, 0),
             Seen::CheckedIn(id) => of(record::CHECKED_IN, id, 0),
-            Seen::Closed(id, reason) => Record {
-                reason: match reason {
-                    ConnectionClosedReason::Idle => 1,
-                    ConnectionClosedReason::Stale => 2,
-                    ConnectionClosedReason::Error => 3,
-                    ConnectionClosedReason::Dropped => 4,
-                    ConnectionClosedReason::PoolClosed => crate::text::CLOSED_BY_POOL,
-                },
-                ..of(record::CLOSED, id, 0)
-            },
+            Seen::Closed {
+                connection,
+                reason,
+                measured,
+            } => {
+                let (reason, other) = match reason {
+                    ConnectionClosedReason::Idle => (1, age(measured)),
+                    ConnectionClosedReason::Stale => (2, 0),
+                    ConnectionClosedReason::Error => (3, 0),
+                    ConnectionClosedReason::Dropped => (4, 0),
+                    ConnectionClosedReason::PoolClosed => (CLOSED_BY_POOL, 0),
+                };
+                Record {
+                    reason,
+                    ..of(record::CLOSED, connection, other)
+                }
+            }
             Seen::PoolReady => of(record::POOL_READY, 0, 0),
             Seen::PoolCleared { interrupt } => Record {
                 reason: u8::from(interrupt),

@@ -3,6 +3,7 @@
 use std::{
     cell::{Cell, RefCell},
     rc::Rc,
+    time::{last_measured, Duration},
 };
 
 use crate::{
@@ -16,7 +17,12 @@ pub(crate) enum Seen {
     Created(u32),
     Ready(u32),
     CheckedIn(u32),
-    Closed(u32, ConnectionClosedReason),
+    /// Closed as idle it has just been tested for that, and `measured` is how long it was available.
+    Closed {
+        connection: u32,
+        reason: ConnectionClosedReason,
+        measured: Duration,
+    },
     PoolReady,
     PoolCleared {
         interrupt: bool,
@@ -69,7 +75,11 @@ pub(crate) fn see_event(event: CmapEvent) {
         CmapEvent::ConnectionCreated(e) => Seen::Created(e.connection_id),
         CmapEvent::ConnectionReady(e) => Seen::Ready(e.connection_id),
         CmapEvent::ConnectionCheckedIn(e) => Seen::CheckedIn(e.connection_id),
-        CmapEvent::ConnectionClosed(e) => Seen::Closed(e.connection_id, e.reason),
+        CmapEvent::ConnectionClosed(e) => Seen::Closed {
+            connection: e.connection_id,
+            reason: e.reason,
+            measured: last_measured(),
+        },
         CmapEvent::PoolReady(_) => Seen::PoolReady,
         CmapEvent::PoolCleared(e) => Seen::PoolCleared {
             interrupt: e.interrupt_in_use_connections,

@@ -67,7 +67,7 @@ cases =
     dayCase 4 (said 0x10000000 5 2 1 ∷ []) ∷
     dayCase 5 (said 0x03000000 6 1 0 ∷ said 0x04030000 7 1 0 ∷ []) ∷
     case (idleAfter 100) (take 4 theDay) (maintain 107) 0 [] ∷
-    case (idleAfter 100) (take 4 theDay) (maintain 108) 0 (said 0x04010000 5 1 0 ∷ []) ∷
+    case (idleAfter 100) (take 4 theDay) (maintain 108) 0 (said 0x04010000 5 1 100 ∷ []) ∷
     case (idleAfter 0) [] five 0 (said 0x13000000 0 5 0 ∷ []) ∷
     case (idleAfter 0) (five ∷ []) five 6 [] ∷ []
 
@@ -185,18 +185,18 @@ refused-options-used = refl
 
 -- ── A record of each kind ──────────────────────────────────────────────────────────────────────────────────────────────
 
--- of serial 7; connection 1, request 2, cause 3, generation 4, five lent
+-- of serial 7; connection 1, request 2, cause 3, generation 4, five lent, an age of 6
 pub inBytes : Record → List ℕ
 inBytes r = recordBytes 7 (fieldsOf r)
 
 pub each-record :
     map inBytes
     (ConnectionCreated 1 ∷ ConnectionReady 1 ∷ ConnectionCheckedIn 1 ∷
-    ConnectionClosed Idle 1 0 ∷ ConnectionClosed Stale 1 0 ∷ ConnectionClosed Error 1 0 ∷ ConnectionClosed Dropped 1 0 ∷ ConnectionClosed PoolClosed 1 0 ∷
+    ConnectionClosed Idle 1 6 ∷ ConnectionClosed Stale 1 0 ∷ ConnectionClosed Error 1 0 ∷ ConnectionClosed Dropped 1 0 ∷ ConnectionClosed PoolClosed 1 0 ∷
     PoolReady ∷ PoolCleared false 3 4 ∷ PoolCleared true 3 4 ∷ PoolShut ∷ Interrupt 5 ∷
     Replied 2 (Pooled 1) ∷ Replied 2 (Establishing 1) ∷ Replied 2 Warmed ∷ Replied 2 (Cleared 3) ∷ Replied 2 Gone ∷ Replied 2 Unheard ∷ [])
     ≡ said 0x01000000 7 1 0 ∷ said 0x02000000 7 1 0 ∷ said 0x03000000 7 1 0 ∷
-    said 0x04010000 7 1 0 ∷ said 0x04020000 7 1 0 ∷ said 0x04030000 7 1 0 ∷ said 0x04040000 7 1 0 ∷ said 0x04050000 7 1 0 ∷
+    said 0x04010000 7 1 6 ∷ said 0x04020000 7 1 0 ∷ said 0x04030000 7 1 0 ∷ said 0x04040000 7 1 0 ∷ said 0x04050000 7 1 0 ∷
     said 0x05000000 7 0 0 ∷ said 0x06000000 7 3 4 ∷ said 0x06010000 7 3 4 ∷ said 0x07000000 7 0 0 ∷ said 0x08000000 7 0 5 ∷
     said 0x10000000 7 2 1 ∷ said 0x11000000 7 2 1 ∷ said 0x12000000 7 2 0 ∷ said 0x13000000 7 2 3 ∷ said 0x14000000 7 2 0 ∷ said 0x15000000 7 2 0 ∷ []
 unfolding inBytes recordBytes if_then_else_

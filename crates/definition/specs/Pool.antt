@@ -1,7 +1,7 @@
 -- What a pool is: its options, its connections in three lists, its queue, and the numbers that it goes on from.
 use mathlib.Core.Bool.{Bool, true, false, not, _&&_, _||_}
 use mathlib.Core.List.{List, [], _∷_}
-use Prim.Native.Nat.{ℕ, zero, suc, _+_, _-_}
+use Prim.Native.Nat.{ℕ, zero, suc, _+_, _-_, min}
 use lib.ListN.{length}
 use Rattle.definition.specs.Words.{if_then_else_, _<?_, _≤?_, _=?_, any?}
 use Rattle.definition.specs.Types.{Options, PoolState, New, Paused, Ready, Closed, PinnedState, InUse, Returned, Purpose, Request, Background, ConnectionState, Vacant, CheckedIn, CheckedOut, Pinned, Pending}
@@ -147,19 +147,27 @@ total p = length (p .available) + length (p .lent) + length (p .pending)
 abbrev pub staleIn : (generation : ℕ) → (of : ℕ) → Bool
 staleIn generation of = not (of =? generation)
 
--- a limit of 0 makes nothing idle
-abbrev pub idleFor : (limit since now : ℕ) → Bool
-idleFor limit since now = 0 <? limit && limit ≤? now - since
+-- The idle test answers with the age, the milliseconds since the connection became available, where that reaches the limit, and
+-- else with 0. A limit of 0 makes nothing idle.
+abbrev pub idleFor : (limit since now : ℕ) → ℕ
+idleFor limit since now = if 0 <? limit && limit ≤? now - since then now - since else 0
+
+-- what is said of a perished one as it is closed: the age, up to what the record can hold; of a stale one nothing, be it idle or not
+abbrev pub mostAge : ℕ
+mostAge = 4294967295
+
+abbrev pub ageTold : (stale : Bool) → (idle : ℕ) → ℕ
+ageTold stale idle = if stale then 0 else min idle mostAge
 
 module _ (p : Pool) (c : Conn) where
   abbrev pub stale : Bool
   stale = staleIn (p .generation) (c .generation)
 
-  abbrev pub idle : Bool
+  abbrev pub idle : ℕ
   idle = idleFor (p .options .idle) (c .time) (p .clock)
 
   abbrev pub perished : Bool
-  perished = stale || idle
+  perished = stale || 0 <? idle
 
 -- ── Connections by number ──────────────────────────────────────────────────────────────────────────────────────────────
 

@@ -4,13 +4,13 @@ use mathlib.Core.Bool.{Bool, true, false, true≢false, not, _&&_, _||_}
 use mathlib.Core.List.{List, [], _∷_, _++_, map, reverse, append-nil, append-assoc, map-append, reverse-cons, reverse-reverse, List·Memᴰ, List·Memᴰ·head, List·Memᴰ·tail, List·Memᴰ·not-nil, List·Memᴰ·eq-of-singleton, List·Memᴰ·append-cases, List·Memᴰ·cases-cons, Memᴰ·append-right}
 use mathlib.Core.Logic.{_⊎_, inl, inr}
 use mathlib.Core.Option.{none, some}
-use Prim.Native.Nat.{ℕ, _+_, _*_, _≤_, _<_}
+use Prim.Native.Nat.{ℕ, _+_, _-_, _*_, _≤_, _<_, min}
 use lib.ListN.{length, length-append}
 use native.Mathlib.Omega.{arith}
 use borrow.Author.Tests.{lt-ltb, le-ltb, le-leb, lt-leb}
 use Rattle.definition.specs.Booleans.{by-lt, no-second}
 use Rattle.definition.specs.Words.{if_then_else_, _<?_, _≤?_, _=?_, _∷ʳ_}
-use Rattle.definition.specs.Pool.{Pool, Conn, Waiter, isClosed, stale, perished, has, hasIn, inBackground, find, withState, withAvailable}
+use Rattle.definition.specs.Pool.{Pool, Conn, Waiter, isClosed, stale, idleFor, idle, perished, ageTold, has, hasIn, inBackground, find, withState, withAvailable}
 use Rattle.definition.specs.Records.{Record, ConnectionCreated, ConnectionCheckedIn, ConnectionClosed, Replied, Reply, Pooled, Establishing, Warmed, Unheard, told}
 use Rattle.definition.specs.Steps.{Out, Act, _>>_, nothing, emit, leaveLent, leavePending, shelve, lendOut, createPendingConnection, closePerished, tellAll, enter, abandon, checkIn, clear, repin, shut, succeededForPool, removePerished, establish, lend, takeAvailable, checkOut, serveFront, service, serviced, handle, event, kindNo}
 use Rattle.definition.specs.Refusals.{refusalNo, Test, _if_, first, tests, kindTests, causeless, takenAfterClose, lastGeneration}
@@ -101,9 +101,22 @@ abbrev pub FrontFails : (Conn → Bool) → List Conn → Type 0
 FrontFails t [] = Unit {0}
 FrontFails t (c ∷ cs) = t c ≡ false
 
--- closed as stale, or else as idle
+-- closed as stale, and no more is said; or else as idle, with the milliseconds since it became available, as far as four bytes hold them
 abbrev pub closing : Pool → Conn → Record
-closing p c = ConnectionClosed (if stale p c then Stale else Idle) (c .id) 0
+closing p c = if stale p c then ConnectionClosed Stale (c .id) 0 else ConnectionClosed Idle (c .id) (min (p .clock - c .time) 4294967295)
+
+idle-age : (limit since now : ℕ) → 0 <? idleFor limit since now ≡ true → idleFor limit since now ≡ now - since
+idle-age limit since now = if-both (λ (age : ℕ). 0 <? age ≡ true → age ≡ now - since) (λ _ _. refl) (λ _ h. absurd (true≢false (sym h)))
+
+closed-as : (outdated : Bool) (limit since now n : ℕ) → (outdated || 0 <? idleFor limit since now) ≡ true
+    → ConnectionClosed (if outdated then Stale else Idle) n (ageTold outdated (idleFor limit since now)) ≡ (if outdated then ConnectionClosed Stale n 0 else ConnectionClosed Idle n (min (now - since) 4294967295))
+unfolding if_then_else_
+closed-as true limit since now n h = refl
+closed-as false limit since now n h = ap (λ (age : ℕ). ConnectionClosed Idle n (min age 4294967295)) (idle-age limit since now h)
+
+perished-says : (p : Pool) (c : Conn) → perished p c ≡ true → closePerished c p .records ≡ closing p c ∷ []
+unfolding closePerished
+perished-says p c h = ap (λ (r : Record). r ∷ []) (closed-as (stale p c) (p .options .idle) (c .time) (p .clock) (c .id) h)
 
 -- Maintenance closes a front part of the available list, front to back. All of the part have perished, and it stops at the first healthy one.
 pub record Pruned (p : Pool) (o : Out Pool) : Type 0 where
@@ -128,7 +141,7 @@ prunes-from (c ∷ cs) p e =
       all-perished = (h, r .all-perished);
       stops = r .stops;
       is-kept = r .is-kept;
-      says = ap (λ x. closing p c ∷ x) (r .says);
+      says = ap (λ x. closePerished c p .records ++ x) (r .says) ∙ ap (λ x. x ++ map (closing p) (r .gone)) (perished-says p c h);
     })
     (λ h. record { gone = []; kept = c ∷ cs; parts = e; all-perished = tt; stops = h; is-kept = e; says = refl })
 
@@ -195,7 +208,7 @@ takes-from w (c ∷ cs) p e =
       parts = ap (λ x. c ∷ x) (r .parts);
       all-perished = (h, r .all-perished);
       stops = r .stops;
-      says = ap (λ x. closing p c ∷ x) (r .says);
+      says = ap (λ x. closePerished c p .records ++ x) (r .says) ∙ ap (λ x. x ++ (map (closing p) (r .gone) ++ foundSays (p .nextId) w (r .left))) (perished-says p c h);
       lent-after = r .lent-after;
       available-after = r .available-after;
     })
@@ -334,7 +347,8 @@ module _ (r c : ℕ) where
   closing-pooled p (x ∷ l) m = go (closing-pooled p l) (List·Memᴰ·cases-cons m)
     where
       go : (HandsOut (map (closing p) l) → ⊥) → (Replied r (Pooled c) ≡ closing p x) ⊎ HandsOut (map (closing p) l) → ⊥
-      go ih (inl e) = let z : _≡_ {A = ℕ} 0 1 = cc in omega arith
+      go ih (inl e) =
+          if-both (λ (x : Record). Replied r (Pooled c) ≡ x → ⊥) (λ _ e. let z : _≡_ {A = ℕ} 0 1 = cc in omega arith) (λ _ e. let z : _≡_ {A = ℕ} 0 1 = cc in omega arith) e
       go ih (inr k) = ih k
 
   took-pooled : (w : Waiter) (p : Pool) (l : List Conn) (o : Out Pool) → Took w p l o → HandsOut (o .records) → List·Memᴰ c (numbers l)

@@ -4,7 +4,7 @@ use mathlib.Core.List.{List, [], _∷_, _++_, map, reverse}
 use Prim.Native.Nat.{ℕ, zero, suc, _+_, _-_, min}
 use lib.ListN.{length}
 use Rattle.definition.specs.Words.{if_then_else_, _<?_, _≤?_, _=?_, _∷ʳ_, some?}
-use Rattle.definition.specs.Pool.{Pool, Conn, Waiter, isReady, isClosed, total, stale, perished, find, without, newConn, withState, setState, withStatus, withNextId, withLastRequest, withAvailable, withLent, withPending, withWaiting}
+use Rattle.definition.specs.Pool.{Pool, Conn, Waiter, isReady, isClosed, total, stale, idle, perished, ageTold, find, without, newConn, withState, setState, withStatus, withNextId, withLastRequest, withAvailable, withLent, withPending, withWaiting}
 use Rattle.definition.specs.Records.{Record, ConnectionCreated, ConnectionReady, ConnectionCheckedIn, ConnectionClosed, PoolReady, PoolCleared, PoolShut, Interrupt, Replied, Reply, Pooled, Establishing, Warmed, Cleared, Gone, told}
 use Rattle.definition.specs.Events.{partsOf}
 use Rattle.definition.specs.Types.{Event, CheckOut, WarmPool, Abandon, CheckIn, Clear, MarkAsReady, Succeeded, SucceededForPool, Failed, Maintenance, FillPool, Pin, ReturnToPinner, TakeFromPinner, Close, PoolState, New, Paused, Ready, Closed, InUse, Returned, Purpose, Request, Background, ConnectionState, CheckedIn, CheckedOut, Pinned, Pending, ClosedReason, Idle, Stale, Error, Dropped, PoolClosed}
@@ -43,7 +43,7 @@ leaveLent n p = become (withLent p (without n (p .lent))) p
 unfoldable pub leavePending : ℕ → Act Pool
 leavePending n p = become (withPending p (without n (p .pending))) p
 
--- a connection that has left its list is closed; nothing more is said of it yet, so `other` is 0
+-- a connection that has left its list is closed; `other` is 0 but for the age of an idle one
 abbrev pub close : ClosedReason → (connection other : ℕ) → Act Pool
 close reason n other = emit (ConnectionClosed reason n other)
 
@@ -71,9 +71,9 @@ unfoldable pub createMany : ℕ → Act Pool
 createMany zero p = nothing p
 createMany (suc n) p = (createPendingConnection Background >> createMany n) p
 
--- an available connection that has perished is closed as stale, else as idle
+-- an available connection that has perished is closed as stale, else as idle, and then its age is told
 unfoldable pub closePerished : Conn → Act Pool
-closePerished c p = close (if stale p c then Stale else Idle) (c .id) 0 p
+closePerished c p = close (if stale p c then Stale else Idle) (c .id) (ageTold (stale p c) (idle p c)) p
 
 -- every waiter, front to back
 unfoldable pub tellAll : Reply → Act Pool

@@ -40,6 +40,9 @@ pub const LAST_NEXT_ID: u32 = 4294967295 - (2 * SLOTS as u32 - 1);
 
 pub const MOST_NEXT_ID: u32 = LAST_NEXT_ID + SLOTS as u32 + 1;
 
+// The most that a record can say of an age.
+pub const MOST_AGE: u32 = 4294967295;
+
 // ── Types ──
 
 // The fifteen kinds of event, in order of their numbers.

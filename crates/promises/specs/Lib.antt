@@ -11,6 +11,7 @@ pub mod Reached
 pub mod Tested
 pub mod OneWaiter
 pub mod RecordCounts
+pub mod Ages
 pub mod Promises
 pub mod Progress
 pub mod Proved

@@ -4,13 +4,15 @@ use mathlib.Core.Path.{_≡_}
 use mathlib.Core.Option.{none}
 use mathlib.Core.List.{List, [], _∷_, _++_, List·Memᴰ}
 use mathlib.Core.Logic.{_⊎_}
-use Prim.Native.Nat.{ℕ, suc, _+_, _*_, _≤_}
+use Prim.Native.Nat.{ℕ, suc, _+_, _*_, _≤_, _<_, min}
 use lib.ListN.{length}
-use Rattle.definition.specs.Pool.{Pool, fresh, slotCount, total, withDefaults, withClock}
-use Rattle.definition.specs.Records.{Record, Replied, Pooled, recordLength}
+use Rattle.definition.specs.Pool.{Pool, fresh, slotCount, total, mostAge, withDefaults, withClock}
+use Rattle.definition.specs.Records.{Record, ConnectionClosed, Replied, Pooled, recordLength}
 use Rattle.definition.specs.Steps.{Out, handle, service}
 use Rattle.definition.specs.Refusals.{first, tests, Call, after, run, enoughRoom, roomRecords, Made, make}
 use Rattle.definition.specs.declared.Options.{Options}
+use Rattle.definition.specs.declared.ClosedReason.{ClosedReason}
+use Rattle.definition.specs.declared.ClosedReason.the-variants.{Idle, Stale, Error, Dropped, PoolClosed}
 use Rattle.definition.specs.declared.Event.{Event}
 use Rattle.definition.specs.declared.Frame.the-variants.{Good}
 use Rattle.definition.specs.Log.{created, closed, answered, numbers, ids, often, Rising}
@@ -131,3 +133,15 @@ pub record FewRecords (o : Options) (before : List Call) (call : Call) : Type 0 
 -- (e) The pool counts its records: the next record's serial is the number of those in the log.
 abbrev pub Serials : Options → List Call → Type 0
 Serials o calls = poolAfter o calls .written ≡ length (logOf o calls)
+
+-- (f) Ages: a connection that the log closes as idle was available for as long as the idle limit, and the record says how long, up to
+-- mostAge; of one that is closed for another reason no age is told.
+abbrev pub AgeSaid : (limit : ℕ) → ClosedReason → (other : ℕ) → Type 0
+AgeSaid limit Idle age = (0 < limit) × (min limit mostAge ≤ age) × (age ≤ mostAge)
+AgeSaid limit Stale other = other ≡ 0
+AgeSaid limit Error other = other ≡ 0
+AgeSaid limit Dropped other = other ≡ 0
+AgeSaid limit PoolClosed other = other ≡ 0
+
+abbrev pub Ages : Options → List Call → Type 0
+Ages o calls = (reason : ClosedReason) (c other : ℕ) → List·Memᴰ (ConnectionClosed reason c other) (logOf o calls) → AgeSaid (o .idle) reason other

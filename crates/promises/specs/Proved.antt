@@ -15,7 +15,7 @@ use Rattle.definition.specs.Refusals.{run, after, Call, Made, NotMade, make}
 use Rattle.definition.specs.declared.Options.{Options}
 use Rattle.definition.specs.declared.Refusal.the-variants.{OptionsOutOfRange}
 use Rattle.definition.specs.Log.{created, closed, answered, ids, often, sumOf, Rising}
-use Rattle.promises.specs.Promises.{Fresh, MadeFresh, Connections, HandsOutFree, Requests, InTime, Waits, LogInTime, InTimeBefore, FewClosed, FewRecords, Serials, poolAfter, logOf, standing}
+use Rattle.promises.specs.Promises.{Fresh, MadeFresh, Connections, HandsOutFree, Requests, InTime, Waits, LogInTime, InTimeBefore, FewClosed, FewRecords, Serials, Ages, poolAfter, logOf, standing}
 use Rattle.definition.specs.Sentences.{pooled-was-available, answered-append}
 use Rattle.promises.specs.Runs.{result, next, puts, times}
 use Rattle.promises.specs.Calls.{stepped}
@@ -26,6 +26,7 @@ use Rattle.promises.specs.Conserve.{held, Moves, conserved, run-moves, u
 use Rattle.promises.specs.Numbered.{Numbers, created-once, run-numbers, until-service-numbers}
 use Rattle.promises.specs.Reached.{run-reached, fresh-reached}
 use Rattle.promises.specs.RecordCounts.{service-closes, step-few}
+use Rattle.promises.specs.Ages.{one-aged, run-aged}
 
 -- ── Made ───────────────────────────────────────────────────────────────────────────────────────────────────────────────
 
@@ -114,7 +115,7 @@ requests o calls =
       answered-once = λ i. rising-once (answered (logOf o calls)) 0 i answered-rise;
     }
 
--- ── In time, few, counted ──────────────────────────────────────────────────────────────────────────────────────────────
+-- ── In time, few, counted, aged ──────────────────────────────────────────────────────────────────────────────────────────────
 
 pub in-time : (o : Options) → InTime o
 in-time o before = in-time-from (poolAfter o before) (run-calms before (fresh o) (fresh-calm o))
@@ -155,3 +156,6 @@ few-records o h k before call =
 
 pub serials : (o : Options) (calls : List Call) → Serials o calls
 serials o calls = omega (arith, run-written calls (fresh o))
+
+pub ages : (o : Options) (calls : List Call) → Ages o calls
+ages o calls reason c other m = one-aged (o .idle) m (run-aged (o .idle) calls (fresh o) refl)

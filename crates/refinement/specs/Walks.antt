@@ -14,7 +14,7 @@ use Rattle.definition.specs.Records.{Record, PoolShut, Gone, told}
 use Rattle.definition.specs.Steps as D
 use Rattle.definition.specs.Steps.{closedWithPool, emit, emitAll, become, _>>_}
 use Rattle.definition.specs.declared.ClosedReason.{ClosedReason}
-use Rattle.definition.specs.declared.ClosedReason.the-variants.{Idle, Stale, PoolClosed}
+use Rattle.definition.specs.declared.ClosedReason.the-variants.{PoolClosed}
 use Rattle.definition.specs.declared.Options.{Options}
 use Rattle.definition.specs.declared.PoolState.the-variants.{Closed}
 use Rattle.definition.specs.declared.Purpose.the-variants.{Background}
@@ -74,18 +74,19 @@ module _ (p : SlotPool) (m : Pool) (c : Conn) (cs : List Conn) (k : ℕ) (st : S
 stale-same : {p : SlotPool} {m : Pool} (a : Alike p m) (i : ℕ) (c : Conn) → shown p i ≡ c → View.staleAt p i ≡ P.stale m c
 stale-same {p} {m} a i c e = ap (λ (x : Conn). staleIn (p .generation) (x .generation)) e ∙ ap (λ (x : ℕ). staleIn x (c .generation)) (a .generation)
 
+idle-same : {p : SlotPool} {m : Pool} (a : Alike p m) (i : ℕ) (c : Conn) → shown p i ≡ c → View.idleAt p i ≡ P.idle m c
+idle-same {p} {m} a i c e =
+    ap (λ (x : Conn). idleFor (p .options .idle) (x .time) (p .clock)) e
+    ∙ ap (λ (x : Options). idleFor (x .idle) (c .time) (p .clock)) (a .options)
+    ∙ ap (λ (x : ℕ). idleFor (m .options .idle) (c .time) x) (a .clock)
+
 pub perished-same : {p : SlotPool} {m : Pool} (a : Alike p m) (i : ℕ) (c : Conn) → shown p i ≡ c → View.perishedAt p i ≡ P.perished m c
-perished-same {p} {m} a i c e =
-    ap (λ (x : Bool). x || idleFor (p .options .idle) (View.slotAt p i .time) (p .clock)) (stale-same a i c e)
-    ∙ ap (λ (x : Conn). P.stale m c || idleFor (p .options .idle) (x .time) (p .clock)) e
-    ∙ ap (λ (x : Options). P.stale m c || idleFor (x .idle) (c .time) (p .clock)) (a .options)
-    ∙ ap (λ (x : ℕ). P.stale m c || idleFor (m .options .idle) (c .time) x) (a .clock)
+perished-same a i c e = rw (stale-same a i c e, idle-same a i c e)
 
 pub closePerished-same : (i : ℕ) (c : Conn) (p : SlotPool) (m : Pool) → Transit p m i → shown p i ≡ c → Same (S.closePerishedAt i p) (D.closePerished c m)
 unfolding S.closePerishedAt D.closePerished
 closePerished-same i c p m tr e =
-    subst (λ (r : ClosedReason). Same (S.closeAt (if View.staleAt p i then Stale else Idle) i 0 p) (D.close r (c .id) 0 m)) (ap (λ (b : Bool). if b then Stale else Idle) (stale-same (tr .alike) i c e))
-    (closeAt-same (if View.staleAt p i then Stale else Idle) i (c .id) 0 p m tr (ap (λ (x : Conn). x .id) e))
+    rw (stale-same (tr .alike) i c e, idle-same (tr .alike) i c e) (closeAt-same _ i (c .id) _ p m tr (ap (λ (x : Conn). x .id) e))
 
 -- closing changes no count but the total
 pub close-counts : (i : ℕ) (p : SlotPool) → (S.closePerishedAt i p .pool .availables ≡ p .availables) × (S.closePerishedAt i p .pool .total ≡ p .total - 1)

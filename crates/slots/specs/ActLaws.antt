@@ -2,18 +2,18 @@
 use mathlib.Core.Path.{_≡_, refl, sym, ap, _∙_}
 use mathlib.Core.Bool.{Bool, true, false, _||_}
 use mathlib.Core.List.{List, [], _∷_}
-use Prim.Native.Nat.{ℕ, zero, suc, _+_, _-_, _≤_, _<_}
+use Prim.Native.Nat.{ℕ, zero, suc, _+_, _-_, _≤_, _<_, min}
 use native.Mathlib.Omega.{arith}
 use lib.ListN.{length, getD, set, length-set}
-use Rattle.definition.specs.Words.{if_then_else_, _=?_}
-use Rattle.definition.specs.Pool.{slotCount, idleFor}
+use Rattle.definition.specs.Words.{if_then_else_, _<?_, _=?_}
+use Rattle.definition.specs.Pool.{slotCount, staleIn, idleFor, mostAge}
 use Rattle.definition.specs.Steps.{_>>_}
 use Rattle.definition.specs.declared.ClosedReason.{ClosedReason}
 use Rattle.definition.specs.declared.ClosedReason.the-variants.{Idle, Stale}
 use Rattle.slots.specs.OrderLaws.{shifted-below, length-shifted, set-below}
-use Rattle.slots.specs.View.{SlotPool, Slot, Whole, slotsOf, orderIn, slotAt, staleAt, perishedAt}
+use Rattle.slots.specs.View.{SlotPool, Slot, Whole, slotsOf, orderIn, slotAt, staleAt, idleAt, perishedAt}
 use Rattle.slots.specs.Parts.{slots-at}
-use Rattle.slots.specs.Codes.{reasonOf, perishedNo, Examines}
+use Rattle.slots.specs.Codes.{reasonOf, perishedNo, perishedAge, Examines}
 use Rattle.slots.specs.CodeLaws.{perished-no}
 use Rattle.slots.specs.Needs.{taken, CanPrune}
 use Rattle.slots.specs.Slots.{closeAt, popFront, popBack, createPendingConnection, zeroed}
@@ -68,30 +68,40 @@ healthy false false e = refl
 abbrev pub perishedNoAt : SlotPool → ℕ → ℕ
 perishedNoAt p i = perishedNo (p .generation) (p .options .idle) (p .clock) (slotAt p i .generation) (slotAt p i .time)
 
--- what `examine` gives: read off the columns, it is said of the slots
-pub examined : (h : Head) (ns ts ss : List ℕ) → length (slotsOf ns ts ss) ≡ slotCount → (k i r : ℕ) → i ≡ getD (orderIn ss) k 0 → i < slotCount
-    → r ≡ perishedNo (h .status .generation) (h .options .idle) (h .clock) (getD ns (slotCount + i) 0) (getD ts i 0) → Examines h (slotsOf ns ts ss) (orderIn ss) k i r
-examined h ns ts ss w k i r e low f = record {
-  slot = e;
-  reason = f ∙ ap (λ (s : Slot). perishedNo (h .status .generation) (h .options .idle) (h .clock) (s .generation) (s .time)) (sym (slots-at ns ts ss w i low));
-}
+-- what `examine` gives, read off the columns and said of the slots: of a stale one, and of any other, whose age is what the idle test answers
+module _ (h : Head) (ns ts ss : List ℕ) (w : length (slotsOf ns ts ss) ≡ slotCount) (k i : ℕ) (e : i ≡ getD (orderIn ss) k 0) (low : i < slotCount) where
+  examined : {r told : ℕ} → r ≡ perishedNo (h .status .generation) (h .options .idle) (h .clock) (getD ns (slotCount + i) 0) (getD ts i 0)
+      → told ≡ perishedAge (h .status .generation) (h .options .idle) (h .clock) (getD ns (slotCount + i) 0) (getD ts i 0)
+      → Examines h (slotsOf ns ts ss) (orderIn ss) k i r told
+  examined f g = record {
+    slot = e;
+    reason = f ∙ ap (λ (s : Slot). perishedNo (h .status .generation) (h .options .idle) (h .clock) (s .generation) (s .time)) (sym (slots-at ns ts ss w i low));
+    told = g ∙ ap (λ (s : Slot). perishedAge (h .status .generation) (h .options .idle) (h .clock) (s .generation) (s .time)) (sym (slots-at ns ts ss w i low));
+  }
+
+  module _ {stale : Bool} (st : stale ≡ staleIn (h .status .generation) (getD ns (slotCount + i) 0)) where
+    pub examined-stale : stale ≡ true → Examines h (slotsOf ns ts ss) (orderIn ss) k i 2 0
+    unfolding if_then_else_
+    examined-stale y = examined (rw (sym st ∙ y)) (rw (sym st ∙ y))
+
+    pub examined-current : stale ≡ false → {age : ℕ} → age ≡ idleFor (h .options .idle) (getD ts i 0) (h .clock)
+        → {r : ℕ} → r ≡ (if 0 <? age then 1 else 0) → {told : ℕ} → told ≡ min age mostAge → Examines h (slotsOf ns ts ss) (orderIn ss) k i r told
+    unfolding if_then_else_
+    examined-current n old f g = examined (rw (sym st ∙ n, ← old) f) (rw (sym st ∙ n, ← old) g)
 
 -- what follows from it
 module _ (p : SlotPool) (i r : ℕ) (e : r ≡ perishedNoAt p i) where
-  abbrev idleAt : Bool
-  idleAt = idleFor (p .options .idle) (slotAt p i .time) (p .clock)
-
   pub is-healthy : r ≡ 0 → perishedAt p i ≡ false
-  is-healthy z = healthy (staleAt p i) idleAt (sym (perished-no p i) ∙ sym e ∙ z)
+  is-healthy z = healthy (staleAt p i) (0 <? idleAt p i) (sym (perished-no p i) ∙ sym e ∙ z)
 
   pub is-perished : (r ≡ 0 → ⊥) → perishedAt p i ≡ true
-  is-perished n = stale-or-idle (staleAt p i) idleAt r (e ∙ perished-no p i) n .0
+  is-perished n = stale-or-idle (staleAt p i) (0 <? idleAt p i) r (e ∙ perished-no p i) n .0
 
   pub perished-reason : (r ≡ 0 → ⊥) → (if staleAt p i then Stale else Idle) ≡ reasonOf r
-  perished-reason n = stale-or-idle (staleAt p i) idleAt r (e ∙ perished-no p i) n .1
+  perished-reason n = stale-or-idle (staleAt p i) (0 <? idleAt p i) r (e ∙ perished-no p i) n .1
 
   pub perished-number : (r ≡ 0 → ⊥) → (0 < r) × (r ≤ 5)
-  perished-number n = let h = stale-or-idle (staleAt p i) idleAt r (e ∙ perished-no p i) n in (h .2, h .3)
+  perished-number n = let h = stale-or-idle (staleAt p i) (0 <? idleAt p i) r (e ∙ perished-no p i) n in (h .2, h .3)
 
 -- ── The pool after an act ──
 

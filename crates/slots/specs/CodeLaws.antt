@@ -4,11 +4,11 @@ use mathlib.Core.Bool.{Bool, true, false, _||_}
 use Prim.Native.Nat.{ℕ, zero, suc, _-_, _≤_, _<_}
 use native.Mathlib.Omega.{arith}
 use borrow.Author.Tests.{leb-true, leb-false, lt-ltb, lt-leb, le-leb}
-use Rattle.definition.specs.Words.{if_then_else_, _≤?_}
+use Rattle.definition.specs.Words.{if_then_else_, _<?_, _≤?_}
 use Rattle.definition.specs.Pool.{Waiter, idleFor}
 use Rattle.definition.specs.Records.{Pooled, Establishing, Warmed, Cleared, Gone, fields, fieldsOf, replyFields, reasonNo, told}
 use Rattle.definition.specs.declared.ClosedReason.the-variants.{Idle, Stale, Error, Dropped, PoolClosed}
-use Rattle.slots.specs.View.{SlotPool, slotAt, staleAt, perishedAt}
+use Rattle.slots.specs.View.{SlotPool, slotAt, staleAt, idleAt, perishedAt}
 use Rattle.slots.specs.Codes.{reasonOf, replyOf, IsReply, perishedNo}
 
 -- ── The numbers are those of the records ──
@@ -53,20 +53,23 @@ module _ (k o : ℕ) (h : IsReply k o) (w : Waiter) where
 
 -- ── Idle ──
 
-pub idle-none : (limit since now : ℕ) → limit ≡ 0 → idleFor limit since now ≡ false
+pub idle-none : (limit since now : ℕ) → limit ≡ 0 → idleFor limit since now ≡ 0
+unfolding if_then_else_
 idle-none limit since now e = rw e
 
-pub idle-early : (limit since now : ℕ) → now < since → idleFor limit since now ≡ false
-idle-early zero since now h = refl
-idle-early (suc l) since now h = rw (lt-ltb 0 (suc l) (omega arith), lt-leb (suc l) (now - since) (omega arith))
-
-pub idle-yes : (limit since now : ℕ) → (limit ≡ 0 → ⊥) → limit ≤ now - since → idleFor limit since now ≡ true
-idle-yes zero since now n h = absurd (n refl)
-idle-yes (suc l) since now n h = rw (lt-ltb 0 (suc l) (omega arith), le-leb (suc l) (now - since) h)
-
-pub idle-no : (limit since now : ℕ) → now - since < limit → idleFor limit since now ≡ false
+pub idle-no : (limit since now : ℕ) → now - since < limit → idleFor limit since now ≡ 0
+unfolding if_then_else_
 idle-no zero since now h = absurd (omega arith)
 idle-no (suc l) since now h = rw (lt-ltb 0 (suc l) (omega arith), lt-leb (suc l) (now - since) h)
+
+pub idle-early : (limit since now : ℕ) → now < since → idleFor limit since now ≡ 0
+idle-early zero since now h = idle-none 0 since now refl
+idle-early (suc l) since now h = idle-no (suc l) since now (omega arith)
+
+pub idle-yes : (limit since now : ℕ) → (limit ≡ 0 → ⊥) → limit ≤ now - since → idleFor limit since now ≡ now - since
+unfolding if_then_else_
+idle-yes zero since now n h = absurd (n refl)
+idle-yes (suc l) since now n h = rw (lt-ltb 0 (suc l) (omega arith), le-leb (suc l) (now - since) h)
 
 -- ── Why a connection is closed ──
 
@@ -79,4 +82,4 @@ stale-no false false = refl
 -- the number that `perished` gives: 0 where slot i is healthy, else that of the reason
 pub perished-no : (p : SlotPool) (i : ℕ)
     → perishedNo (p .generation) (p .options .idle) (p .clock) (slotAt p i .generation) (slotAt p i .time) ≡ (if perishedAt p i then (if staleAt p i then 2 else 1) else 0)
-perished-no p i = sym (stale-no (staleAt p i) (idleFor (p .options .idle) (slotAt p i .time) (p .clock)))
+perished-no p i = sym (stale-no (staleAt p i) (0 <? idleAt p i))

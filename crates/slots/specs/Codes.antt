@@ -3,8 +3,8 @@ use mathlib.Core.Path.{_≡_}
 use mathlib.Core.List.{List}
 use Prim.Native.Nat.{ℕ, _≤_}
 use lib.ListN.{getD}
-use Rattle.definition.specs.Words.{if_then_else_, _≤?_}
-use Rattle.definition.specs.Pool.{staleIn, idleFor}
+use Rattle.definition.specs.Words.{if_then_else_, _<?_, _≤?_}
+use Rattle.definition.specs.Pool.{staleIn, idleFor, ageTold}
 use Rattle.slots.specs.View.{Slot, vacant}
 use Rattle.slots.specs.declared.Head.{Head}
 use Rattle.definition.specs.Records.{Reply, Pooled, Establishing, Warmed, Cleared, Gone}
@@ -22,11 +22,17 @@ pub record IsReply (kind other : ℕ) : Type 0 where
   pub kinds : (16 ≤ kind) × (kind ≤ 20)
   pub zero : (kind ≡ 18 → other ≡ 0) × (kind ≡ 20 → other ≡ 0)
 
--- why an available connection is closed: 2 stale, else 1 idle, 0 not at all
-abbrev pub perishedNo : (generation limit now : ℕ) → (made since : ℕ) → ℕ
-perishedNo generation limit now made since = if staleIn generation made then 2 else if idleFor limit since now then 1 else 0
+module _ (generation limit now : ℕ) (made since : ℕ) where
+  -- why an available connection is closed: 2 stale, else 1 idle, 0 not at all
+  abbrev pub perishedNo : ℕ
+  perishedNo = if staleIn generation made then 2 else if 0 <? idleFor limit since now then 1 else 0
 
--- of the available connection at place k: its slot, and the number of why it is closed
-pub record Examines (h : Head) (slots : List Slot) (order : List ℕ) (k i r : ℕ) : Type 0 where
+  -- and the age that is told then
+  abbrev pub perishedAge : ℕ
+  perishedAge = ageTold (staleIn generation made) (idleFor limit since now)
+
+-- of the available connection at place k: its slot, the number of why it is closed, and the age that is told
+pub record Examines (h : Head) (slots : List Slot) (order : List ℕ) (k i r age : ℕ) : Type 0 where
   pub slot : i ≡ getD order k 0
   pub reason : r ≡ perishedNo (h .status .generation) (h .options .idle) (h .clock) (getD slots i vacant .generation) (getD slots i vacant .time)
+  pub told : age ≡ perishedAge (h .status .generation) (h .options .idle) (h .clock) (getD slots i vacant .generation) (getD slots i vacant .time)

@@ -6,7 +6,7 @@ use mathlib.Core.List.{List, [], _∷_, _++_, map}
 use Prim.Native.Nat.{ℕ, zero, suc, _+_, _-_, _*_, _/_, _%_, _≤_, _<_}
 use lib.ListN.{length, getD, set, take}
 use Rattle.definition.specs.Words.{if_then_else_, _<?_, _≤?_, _=?_}
-use Rattle.definition.specs.Pool.{slotCount, Waiter, isReady, isClosed, staleIn, idleFor}
+use Rattle.definition.specs.Pool.{slotCount, Waiter, isReady, isClosed}
 use Rattle.definition.specs.Records.{Record, ConnectionCreated, ConnectionReady, ConnectionCheckedIn, ConnectionClosed, PoolReady, PoolCleared, PoolShut, Interrupt, Replied, Reply, Pooled, Establishing, Warmed, Cleared, Gone, told}
 use Rattle.definition.specs.Events.{bit}
 use Rattle.definition.specs.Steps.{Act, nothing, emit, emitAll, become, _>>_, serviced}
@@ -18,7 +18,7 @@ use Rattle.definition.specs.declared.PoolState.the-variants.{New, Paused, Ready
 use Rattle.definition.specs.declared.ClosedReason.{ClosedReason}
 use Rattle.definition.specs.declared.ClosedReason.the-variants.{Idle, Stale, Error, Dropped, PoolClosed}
 use Rattle.slots.specs.Order.{vacantSlot, shifted}
-use Rattle.slots.specs.View.{SlotPool, newSlot, vacant, withState, withTable, withCounts, withNextId, withAvailable, withWaiters, withStatus, withLastRequest, idAt, slotAt, staleAt, perishedAt, waiterOf}
+use Rattle.slots.specs.View.{SlotPool, newSlot, vacant, withState, withTable, withCounts, withNextId, withAvailable, withWaiters, withStatus, withLastRequest, idAt, slotAt, staleAt, perishedAt, ageToldAt, waiterOf}
 
 -- the numbers of the states
 abbrev pub vacantNo : ℕ
@@ -76,7 +76,7 @@ createPendingConnection state p =
     ) p
 
 unfoldable pub closePerishedAt : ℕ → Act SlotPool
-closePerishedAt i p = closeAt (if staleAt p i then Stale else Idle) i 0 p
+closePerishedAt i p = closeAt (if staleAt p i then Stale else Idle) i (ageToldAt p i) p
 
 -- the first n cells are 0
 unfoldable pub zeroed : ℕ → List ℕ → List ℕ

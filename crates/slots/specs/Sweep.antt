@@ -95,20 +95,20 @@ module _ {act : ℕ → Act SlotPool} {more : ℕ} {o : Out SlotPool} {s n₀ k 
       h .1,
     )
 
-    pub sweep-turns : (reason : ClosedReason) → act k q ≡ (pop >> closeAt reason i 0 >> act (k - 1)) q → (r : SlotPool) {m : ℕ} {out' : List ℕ}
-        → Done (closeAt reason i 0 q₁) (q₁ .serial) n out r m out' → length out' ≡ length out
+    pub sweep-turns : (reason : ClosedReason) (other : ℕ) → act k q ≡ (pop >> closeAt reason i other >> act (k - 1)) q → (r : SlotPool) {m : ℕ} {out' : List ℕ}
+        → Done (closeAt reason i other q₁) (q₁ .serial) n out r m out' → length out' ≡ length out
         → Sweeping act more o s n₀ out₀ (k - 1) m r out'
-    sweep-turns reason goes r {m} d el =
-        let em : m ≡ n + 1 = d .count ∙ ap (λ (x : ℕ). n + x) (closed-records reason i 0 q₁) in
-        let t = underway-step pop (closeAt reason i 0 >> act (k - 1)) q q₁ (rw goes at (v .told)) (done-quiet (pop q) (leaves .quiet) e) in
+    sweep-turns reason other goes r {m} d el =
+        let em : m ≡ n + 1 = d .count ∙ ap (λ (x : ℕ). n + x) (closed-records reason i other q₁) in
+        let t = underway-step pop (closeAt reason i other >> act (k - 1)) q q₁ (rw goes at (v .told)) (done-quiet (pop q) (leaves .quiet) e) in
         let s₁ = subst (λ (x : SlotPool). CanPrune x) (sym e) (leaves .prune) in
         let f : q₁ .availables < q₁ .total = omega (arith, sweep-count, popped-total, v .safe .counts, v .count) in
         record {
-          told = underway-step (closeAt reason i 0) (act (k - 1)) q₁ r t (done-serial sweep-serial d);
-          safe = subst (λ (x : SlotPool). CanPrune x) (sym (d .pool)) (closed-prune q₁ reason i 0 s₁ f);
-          whole = subst (λ (x : SlotPool). Whole x) (sym (d .pool)) (closed-whole q₁ reason i 0 sweep-whole);
-          count = sym (ap (λ (x : SlotPool). x .availables) (d .pool) ∙ closed-count reason i 0 q₁ ∙ sweep-count);
+          told = underway-step (closeAt reason i other) (act (k - 1)) q₁ r t (done-serial sweep-serial d);
+          safe = subst (λ (x : SlotPool). CanPrune x) (sym (d .pool)) (closed-prune q₁ reason i other s₁ f);
+          whole = subst (λ (x : SlotPool). Whole x) (sym (d .pool)) (closed-whole q₁ reason i other sweep-whole);
+          count = sym (ap (λ (x : SlotPool). x .availables) (d .pool) ∙ closed-count reason i other q₁ ∙ sweep-count);
           room = (omega (arith, v .room .0), omega (arith, v .room .1));
-          serial = ap (λ (x : SlotPool). x .serial) (d .pool) ∙ closed-serial reason i 0 q₁ ∙ sweep-serial;
+          serial = ap (λ (x : SlotPool). x .serial) (d .pool) ∙ closed-serial reason i other q₁ ∙ sweep-serial;
           same = el ∙ v .same;
         }

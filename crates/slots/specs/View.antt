@@ -7,8 +7,8 @@ use Prim.Native.Nat.{ℕ, _+_, _*_, _/_, _%_, _≤_, _<_}
 use lib.ListN.{length, getD, set}
 use denote.Ref.{RefT, now}
 use denote.Triple.Both.{Both}
-use Rattle.definition.specs.Words.{_≤?_, _=?_}
-use Rattle.definition.specs.Pool.{queueLength, slotCount, Waiter, staleIn, idleFor}
+use Rattle.definition.specs.Words.{_<?_, _≤?_, _=?_}
+use Rattle.definition.specs.Pool.{queueLength, slotCount, Waiter, staleIn, idleFor, ageTold}
 use Rattle.definition.specs.declared.Options.{Options}
 use Rattle.definition.specs.declared.PoolState.{PoolState}
 use Rattle.slots.specs.Columns.{column, zip}
@@ -148,8 +148,14 @@ module _ (p : SlotPool) where
   abbrev pub staleAt : ℕ → Bool
   staleAt i = staleIn (p .generation) (slotAt i .generation)
 
+  abbrev pub idleAt : ℕ → ℕ
+  idleAt i = idleFor (p .options .idle) (slotAt i .time) (p .clock)
+
   abbrev pub perishedAt : ℕ → Bool
-  perishedAt i = staleAt i || idleFor (p .options .idle) (slotAt i .time) (p .clock)
+  perishedAt i = staleAt i || 0 <? idleAt i
+
+  abbrev pub ageToldAt : ℕ → ℕ
+  ageToldAt i = ageTold (staleAt i) (idleAt i)
 
 abbrev pub waiterOf : ℕ → Waiter
 waiterOf w = record { id = w / 4; warm = w % 2 =? 1; abandoned = 2 ≤? w % 4 }

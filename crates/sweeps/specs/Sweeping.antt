@@ -1,5 +1,5 @@
 -- The two sweeps from the available front: what each call in a turn asks, that a turn keeps what holds, and what the end gives.
-use mathlib.Core.Path.{_≡_, refl, ap}
+use mathlib.Core.Path.{_≡_, refl, sym, ap, _∙_}
 use mathlib.Core.List.{List, []}
 use Prim.Native.Nat.{ℕ, zero, suc, _-_, _≤_, _<_}
 use native.Mathlib.Omega.{arith}
@@ -9,7 +9,7 @@ use Rattle.definition.specs.Pool.{slotCount}
 use Rattle.definition.specs.Steps.{Out, Act, _>>_}
 use Rattle.definition.specs.declared.ClosedReason.{ClosedReason}
 use Rattle.definition.specs.declared.ClosedReason.the-variants.{PoolClosed}
-use Rattle.slots.specs.View.{SlotPool, Whole}
+use Rattle.slots.specs.View.{SlotPool, Whole, ageToldAt}
 use Rattle.slots.specs.Done.{Room, Done}
 use Rattle.slots.specs.DoneLaws.{underway-done}
 use Rattle.slots.specs.Codes.{reasonOf}
@@ -36,13 +36,14 @@ module _ (p : SlotPool) (i r : ℕ) (front : i ≡ getD (p .available) 0 0) (why
   prune-stops zero z = refl
   prune-stops (suc k) z = rw (← front, is-healthy p i r why z)
 
-  prune-goes : (k : ℕ) → 0 < k → (r ≡ 0 → ⊥) → prune k p ≡ (popFront >> closeAt (reasonOf r) i 0 >> prune (k - 1)) p
+  prune-goes : (k : ℕ) → 0 < k → (r ≡ 0 → ⊥) → (age : ℕ) → age ≡ ageToldAt p i → prune k p ≡ (popFront >> closeAt (reasonOf r) i age >> prune (k - 1)) p
   unfolding prune popFront closePerishedAt if_then_else_ _>>_
-  prune-goes zero z n = absurd (omega arith)
-  prune-goes (suc k) z n =
+  prune-goes zero z n age old = absurd (omega arith)
+  prune-goes (suc k) z n age old =
       let l : suc k - 1 ≡ k = omega arith in
       rw (← front, is-perished p i r why n, l)
-      (ap (λ (x : ClosedReason). (popFront >> closeAt x i 0 >> prune k) p) (perished-reason p i r why n))
+      (ap (λ (x : ClosedReason). (popFront >> closeAt x i (ageToldAt p i) >> prune k) p) (perished-reason p i r why n)
+      ∙ ap (λ (x : ℕ). (popFront >> closeAt (reasonOf r) i x >> prune k) p) (sym old))
 
 module _ {o : Out SlotPool} {s n₀ k n : ℕ} {out₀ out : List ℕ} {q : SlotPool} (v : Sweeping prune 0 o s n₀ out₀ k n q out) where
   -- what looking at the front asks
@@ -64,9 +65,9 @@ module _ {o : Out SlotPool} {s n₀ k n : ℕ} {out₀ out : List ℕ} {q : Slot
       pub prune-closes : Whole q₁ × CanClose q₁ i × Room 1 n out × (0 < r) × (r ≤ 5)
       prune-closes = sweep-closes v z popFront (front-leaves v z) i e (omega (arith, front, v .safe .listed 0)) (perished-number q i r why h)
 
-      pub prune-turns : (q' : SlotPool) {m : ℕ} {out' : List ℕ} → Done (closeAt (reasonOf r) i 0 q₁) (q₁ .serial) n out q' m out'
+      pub prune-turns : {age : ℕ} → age ≡ ageToldAt q i → (q' : SlotPool) {m : ℕ} {out' : List ℕ} → Done (closeAt (reasonOf r) i age q₁) (q₁ .serial) n out q' m out'
           → length out' ≡ length out → Sweeping prune 0 o s n₀ out₀ (k - 1) m q' out'
-      prune-turns q' d el = sweep-turns v z popFront (front-leaves v z) i e (reasonOf r) (prune-goes q i r front why k z h) q' d el
+      prune-turns {age} old q' d el = sweep-turns v z popFront (front-leaves v z) i e (reasonOf r) age (prune-goes q i r front why k z h age old) q' d el
 
 -- ── All of them ────────────────────────────────────────────────────────────────────────────────────────────────────────
 
@@ -87,4 +88,4 @@ module _ {o : Out SlotPool} {s n₀ k n : ℕ} {out₀ out : List ℕ} {q : Slot
 
     pub front-turns : (q' : SlotPool) {m : ℕ} {out' : List ℕ} → Done (closeAt PoolClosed i 0 q₁) (q₁ .serial) n out q' m out'
         → length out' ≡ length out → Sweeping closeFront 0 o s n₀ out₀ (k - 1) m q' out'
-    front-turns q' d el = sweep-turns v z popFront (front-leaves v z) i e PoolClosed (close-goes k q i z front) q' d el
+    front-turns q' d el = sweep-turns v z popFront (front-leaves v z) i e PoolClosed 0 (close-goes k q i z front) q' d el

@@ -66,6 +66,7 @@ pub fn remove_perished_connections(
         let front = conditions::examine(h, numbers, times, states, 0);
         let i = front.slot;
         let r = front.reason;
+        let age = front.age;
         if r == 0 {
             return Progress {
                 head: h,
@@ -73,7 +74,7 @@ pub fn remove_perished_connections(
             };
         }
         h = acts::pop_front(h, numbers, times, states, waiters);
-        let c = acts::close_connection(h, numbers, times, states, waiters, out, count, i, r, 0);
+        let c = acts::close_connection(h, numbers, times, states, waiters, out, count, i, r, age);
         h = c.head;
         count = c.count;
         k = k - 1;

@@ -9,7 +9,7 @@ use Rattle.definition.specs.Words.{if_then_else_}
 use Rattle.definition.specs.Pool.{slotCount, Waiter}
 use Rattle.definition.specs.Steps.{Out, Act, _>>_}
 use Rattle.definition.specs.declared.ClosedReason.{ClosedReason}
-use Rattle.slots.specs.View.{SlotPool, Whole, perishedAt}
+use Rattle.slots.specs.View.{SlotPool, Whole, perishedAt, ageToldAt}
 use Rattle.slots.specs.Done.{Room, Done}
 use Rattle.slots.specs.DoneLaws.{done-then, done-quiet, done-serial, done-as, underway-then}
 use Rattle.slots.specs.Finding.{vacant-freed}
@@ -34,11 +34,12 @@ module _ (k : ℕ) (w : Waiter) (p : SlotPool) (i r : ℕ) (more : 0 < k) (back 
       ∙ ap (λ (j : ℕ). (popBack >> goOn (perishedAt p j) (k - 1) j) p) (sym back)
       ∙ ap (λ (x : Bool). (popBack >> goOn x (k - 1) i) p) g
 
-  take-goes : (r ≡ 0 → ⊥) → takeFrom k w p ≡ (popBack >> (closeAt (reasonOf r) i 0 >> takeFrom (k - 1) w)) p
+  take-goes : (r ≡ 0 → ⊥) → (age : ℕ) → age ≡ ageToldAt p i → takeFrom k w p ≡ (popBack >> (closeAt (reasonOf r) i age >> takeFrom (k - 1) w)) p
   unfolding if_then_else_ popBack closePerishedAt _>>_
-  take-goes n =
+  take-goes n age old =
       take-by true (is-perished p i r why n)
-      ∙ ap (λ (x : ClosedReason). (popBack >> (closeAt x i 0 >> takeFrom (k - 1) w)) p) (perished-reason p i r why n)
+      ∙ ap (λ (x : ClosedReason). (popBack >> (closeAt x i (ageToldAt p i) >> takeFrom (k - 1) w)) p) (perished-reason p i r why n)
+      ∙ ap (λ (x : ℕ). (popBack >> (closeAt (reasonOf r) i x >> takeFrom (k - 1) w)) p) (sym old)
 
   take-stops : r ≡ 0 → takeFrom k w p ≡ (popBack >> lend w i) p
   unfolding if_then_else_
@@ -59,10 +60,10 @@ pub take-start : (w : Waiter) (p : SlotPool) {n : ℕ} {out : List ℕ} → Whol
 take-start w p h = record { sweep = sweep-start (taking w) 2 p refl (h .0) (h .1 .prune) (h .2); safe = h .1 }
 
 -- the back has left, and was closed
-closed-safe : (q : SlotPool) (reason : ClosedReason) (i : ℕ) → Whole q → CanTake q → i < slotCount → CanPrune (closeAt reason i 0 (popBack q .pool) .pool)
-    → CanTake (closeAt reason i 0 (popBack q .pool) .pool)
+closed-safe : (q : SlotPool) (reason : ClosedReason) (i other : ℕ) → Whole q → CanTake q → i < slotCount → CanPrune (closeAt reason i other (popBack q .pool) .pool)
+    → CanTake (closeAt reason i other (popBack q .pool) .pool)
 unfolding popBack closeAt _>>_
-closed-safe q reason i w s low prune = record {
+closed-safe q reason i other w s low prune = record {
   prune = prune;
   spot = λ _. vacant-freed (q .ids) (w .ids) i low;
   ids = s .ids;
@@ -121,10 +122,10 @@ module _ {w : Waiter} {o : Out SlotPool} {s n₀ k n : ℕ} {out₀ out : List �
         pub take-closes : Whole q₁ × CanClose q₁ i × Room 1 n out × (0 < r) × (r ≤ 5)
         take-closes = sweep-closes (v .sweep) z popBack leaves i e slot (perished-number q i r why h)
 
-        pub take-turns : (q' : SlotPool) {m : ℕ} {out' : List ℕ} → Done (closeAt (reasonOf r) i 0 q₁) (q₁ .serial) n out q' m out'
+        pub take-turns : {age : ℕ} → age ≡ ageToldAt q i → (q' : SlotPool) {m : ℕ} {out' : List ℕ} → Done (closeAt (reasonOf r) i age q₁) (q₁ .serial) n out q' m out'
             → length out' ≡ length out → Taking w o s n₀ out₀ (k - 1) m q' out'
-        take-turns q' d el =
-            let y : q' ≡ closeAt (reasonOf r) i 0 (popBack q .pool) .pool = d .pool ∙ ap (λ (x : SlotPool). closeAt (reasonOf r) i 0 x .pool) e in
-            let t = sweep-turns (v .sweep) z popBack leaves i e (reasonOf r) (take-goes k w q i r z back why h) q' d el in
-            let c = closed-safe q (reasonOf r) i (v .sweep .whole) (v .safe) slot (subst (λ (x : SlotPool). CanPrune x) y (t .safe)) in
+        take-turns {age} old q' d el =
+            let y : q' ≡ closeAt (reasonOf r) i age (popBack q .pool) .pool = d .pool ∙ ap (λ (x : SlotPool). closeAt (reasonOf r) i age x .pool) e in
+            let t = sweep-turns (v .sweep) z popBack leaves i e (reasonOf r) age (take-goes k w q i r z back why h age old) q' d el in
+            let c = closed-safe q (reasonOf r) i age (v .sweep .whole) (v .safe) slot (subst (λ (x : SlotPool). CanPrune x) y (t .safe)) in
             record { sweep = t; safe = subst (λ (x : SlotPool). CanTake x) (sym y) c }

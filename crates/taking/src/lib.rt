@@ -33,11 +33,12 @@ pub fn take_available(
         let back = conditions::examine(h, numbers, times, states, k);
         let i = back.slot;
         let r = back.reason;
+        let age = back.age;
         h = acts::pop_back(h, numbers, times, states, waiters);
         if r == 0 {
             return lending::lend(h, numbers, times, states, waiters, out, count, waiter, i);
         }
-        let c = acts::close_connection(h, numbers, times, states, waiters, out, count, i, r, 0);
+        let c = acts::close_connection(h, numbers, times, states, waiters, out, count, i, r, age);
         h = c.head;
         count = c.count;
     }

@@ -77,7 +77,7 @@ loop-again c =
     let d = looked p in
     let t = start d in
     prune-turns (t .before .loop .inv) (d .examine .ensures .slot) (d .examine .ensures .reason) (p .before .before .before .before .before .if1 .left)
-    (t .loop-test .taken) {q₁ = popped p} (p .pop-front .ensures) (left s) (s .close-connection .ensures) (search needs)
+    (t .loop-test .taken) {q₁ = popped p} (p .pop-front .ensures) (d .examine .ensures .told) (left s) (s .close-connection .ensures) (search needs)
 
 same-length-2 : tie.Need-same-length-2 Inv-loop μ-loop
 same-length-2 c = search needs

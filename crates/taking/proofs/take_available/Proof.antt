@@ -99,7 +99,7 @@ loop-again c =
     let d = looked p in
     let t = start d in
     take-turns (t .before .loop .inv) (t .loop-test .taken) (d .examine .ensures .slot) (d .examine .ensures .reason) {q₁ = popped p} (p .pop-back .ensures)
-    (x .if1 .left) (left-closed s) (s .close-connection .ensures) (search needs)
+    (x .if1 .left) (d .examine .ensures .told) (left-closed s) (s .close-connection .ensures) (search needs)
 
 establish-requires : tie.Need-establish-requires Inv-loop μ-loop
 establish-requires c κs = let t = c .before .before .before .before .before in take-creates (t .before .loop .inv) (omega arith)

@@ -9,6 +9,7 @@ pub mod time {
 
     thread_local! {
         static NOW: Cell<u64> = const { Cell::new(0) };
+        static MEASURED: Cell<Duration> = const { Cell::new(Duration::ZERO) };
     }
 
     /// Milliseconds of the day; they may pass what the real `Instant` can hold.
@@ -21,6 +22,12 @@ pub mod time {
         NOW.with(|now| now.set(milliseconds));
     }
 
+    /// What the last `duration_since` gave. The files call that by name in one place, the idle test;
+    /// their other durations are differences.
+    pub fn last_measured() -> Duration {
+        MEASURED.with(Cell::get)
+    }
+
     impl Instant {
         pub fn now() -> Self {
             Self {
@@ -28,17 +35,19 @@ pub mod time {
             }
         }
 
-        /// Saturates at zero, as the real one does.
         pub fn duration_since(&self, earlier: Instant) -> Duration {
-            Duration::from_millis(self.milliseconds.saturating_sub(earlier.milliseconds))
+            let measured = *self - earlier;
+            MEASURED.with(|last| last.set(measured));
+            measured
         }
     }
 
     impl Sub<Instant> for Instant {
         type Output = Duration;
 
+        /// Saturates at zero, as the real one does.
         fn sub(self, earlier: Instant) -> Duration {
-            self.duration_since(earlier)
+            Duration::from_millis(self.milliseconds.saturating_sub(earlier.milliseconds))
         }
     }
 }

@@ -11,7 +11,7 @@ use borrow.Author.Tests.{lt-ltb, le-ltb, le-leb, lt-leb}
 use Rattle.definition.specs.Booleans.{by-lt, no-second}
 use Rattle.definition.specs.Words.{if_then_else_, _<?_, _≤?_, _=?_, _∷ʳ_}
 use Rattle.definition.specs.Pool.{Pool, Conn, Waiter, isClosed, stale, idleFor, idle, perished, ageTold, has, hasIn, inBackground, find, withState, withAvailable}
-use Rattle.definition.specs.Records.{Record, ConnectionCreated, ConnectionCheckedIn, ConnectionClosed, Replied, Reply, Pooled, Establishing, Warmed, Unheard, told}
+use Rattle.definition.specs.Records.{Record, ConnectionCreated, ConnectionCheckedIn, ConnectionClosed, PoolShut, Replied, Reply, Pooled, Establishing, Warmed, Gone, Unheard, told}
 use Rattle.definition.specs.Steps.{Out, Act, _>>_, nothing, emit, leaveLent, leavePending, shelve, lendOut, createPendingConnection, closePerished, tellAll, enter, abandon, checkIn, clear, repin, shut, succeededForPool, removePerished, establish, lend, takeAvailable, checkOut, serveFront, service, serviced, handle, event, kindNo}
 use Rattle.definition.specs.Refusals.{refusalNo, Test, _if_, first, tests, kindTests, causeless, takenAfterClose, lastGeneration}
 use Rattle.definition.specs.declared.Event.{Event}
@@ -82,6 +82,12 @@ clear-pauses timeout cause p = (refl, refl)
 pub shut-closes : (p : Pool) → shut p .pool .state ≡ Closed
 unfolding shut enter _>>_
 shut-closes p = refl
+
+-- what a close says: of those available that they are closed with the pool, and no more; then to those who wait; then of the pool
+pub shut-says : (p : Pool)
+    → shut p .records ≡ map (λ c. ConnectionClosed PoolClosed (c .id) 0) (p .available) ++ (map (told Gone) (p .waiting) ++ PoolShut ∷ [])
+unfolding shut tellAll enter _>>_
+shut-says p = rw append-nil
 
 -- no service stage follows an abandon, a pin, a return or a take: they say nothing
 pub silent : (n : ℕ) (p : Pool)

@@ -148,14 +148,15 @@ abbrev pub staleIn : (generation : ℕ) → (of : ℕ) → Bool
 staleIn generation of = not (of =? generation)
 
 -- The idle test answers with the age, the milliseconds since the connection became available, where that reaches the limit, and
--- else with 0. A limit of 0 makes nothing idle.
+-- else with 0. A limit of 0 makes nothing idle, so the age of an idle one is never 0.
 abbrev pub idleFor : (limit since now : ℕ) → ℕ
 idleFor limit since now = if 0 <? limit && limit ≤? now - since then now - since else 0
 
--- what is said of a perished one as it is closed: the age, up to what the record can hold; of a stale one nothing, be it idle or not
+-- the most that a record can say of an age
 abbrev pub mostAge : ℕ
 mostAge = 4294967295
 
+-- what is told of a perished one as it is closed: nothing of a stale one, be it idle or not; of an idle one its age
 abbrev pub ageTold : (stale : Bool) → (idle : ℕ) → ℕ
 ageTold stale idle = if stale then 0 else min idle mostAge
 

@@ -107,7 +107,7 @@ abbrev pub FrontFails : (Conn → Bool) → List Conn → Type 0
 FrontFails t [] = Unit {0}
 FrontFails t (c ∷ cs) = t c ≡ false
 
--- closed as stale, and no more is said; or else as idle, with the milliseconds since it became available, as far as four bytes hold them
+-- closed as stale, and no more is said; or else as idle, with the milliseconds since it became available, as far as four bytes can say them
 abbrev pub closing : Pool → Conn → Record
 closing p c = if stale p c then ConnectionClosed Stale (c .id) 0 else ConnectionClosed Idle (c .id) (min (p .clock - c .time) 4294967295)
 

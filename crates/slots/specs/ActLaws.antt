@@ -1,4 +1,4 @@
--- What the acts leave of what the next act asks for, and what the number of the idle test tells.
+-- What the acts leave of what the next act asks for, and what looking at an available connection tells.
 use mathlib.Core.Path.{_≡_, refl, sym, ap, _∙_}
 use mathlib.Core.Bool.{Bool, true, false, _||_}
 use mathlib.Core.List.{List, [], _∷_}
@@ -49,7 +49,7 @@ zeroed-more zero (x ∷ l) = refl
 zeroed-more (suc k) [] = refl
 zeroed-more (suc k) (x ∷ l) = ap (λ (r : List ℕ). 0 ∷ r) (zeroed-more k l)
 
--- ── The idle test ──
+-- ── An available connection is looked at ──
 
 stale-or-idle : (b c : Bool) (r : ℕ) → r ≡ (if b || c then (if b then 2 else 1) else 0) → (r ≡ 0 → ⊥)
     → (b || c ≡ true) × ((if b then Stale else Idle) ≡ reasonOf r) × (0 < r) × (r ≤ 5)

@@ -79,7 +79,7 @@ stale-no true c = refl
 stale-no false true = refl
 stale-no false false = refl
 
--- the number that `perished` gives: 0 where slot i is healthy, else that of the reason
+-- the number that `examine` gives: 0 where slot i is healthy, else that of the reason
 pub perished-no : (p : SlotPool) (i : ℕ)
     → perishedNo (p .generation) (p .options .idle) (p .clock) (slotAt p i .generation) (slotAt p i .time) ≡ (if perishedAt p i then (if staleAt p i then 2 else 1) else 0)
 perished-no p i = sym (stale-no (staleAt p i) (0 <? idleAt p i))

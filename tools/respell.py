@@ -1,6 +1,7 @@
 #!/usr/bin/env python3
 """Spells the repository's own definitions and lemmas as today's Rattle does: words in snake case, a lemma that would have
-its function's name with _lem. Run once, at the top, after the kit's port.py; docs/PORT.md says when that was.
+its function's name with _lem. And the definition's choice, `if b then x else y`, is `when b then x else y`: std has an operator
+of the first name, another one. Run once, at the top, after the kit's port.py; docs/PORT.md says when that was.
 
 Turns the names that specs/ and proofs/*.antt declare, wherever they stand: in .antt files, in the clauses of .rt files and in
 the edits. Names of src/, words in quotes and words of comments stay, but for a definition's name in camel case."""
@@ -93,7 +94,46 @@ def turn_line(line, to, mark, words=True):
     return turn(code, to, words) + sep + turn(said, to, False)
 
 
+CHOICE = re.compile(r"""(?P<said>(?:^|(?<=\s))--(?=\s)[^\n]*)|(?P<text>"(?:[^"\\]|\\.)*")|(?P<open>[({\[])|(?P<close>[)}\]])|(?P<end>\n(?=\S))|(?P<word>[^\s(){}\[\].,;«»"@`]+)""")
+
+
+def choice(text):
+    """`if` is `when` where a `then` belongs to it: a test, `refusal if b`, has none."""
+    at, stack = [], [[]]
+    for m in CHOICE.finditer(text):
+        word = m.group('word')
+        if m.group('end'):
+            stack = [[]]
+        elif m.group('open'):
+            stack.append([])
+        elif m.group('close'):
+            if len(stack) > 1:
+                stack.pop()
+        elif word == 'if':
+            stack[-1].append(m.start())
+        elif word == 'then' and stack[-1]:
+            at.append(stack[-1].pop())
+        elif word == 'if◌then◌else◌':
+            at.append(m.start())
+    for i in sorted(at, reverse=True):
+        text = text[:i] + 'when' + text[i + 2 :]
+    return text
+
+
+def choices():
+    for f in sorted(glob.glob('crates/*/**/*.antt', recursive=True)):
+        if '/out/' not in f:
+            put(f, [choice(open(f, encoding='utf-8').read())])
+    for f in sorted(glob.glob('crates/*/src/*.rt')):
+        put(f, [choice(l) if l.startswith('ghost use') or re.match(r'\s*(requires|ensures)\b', l) else l for l in open(f, encoding='utf-8')])
+    for f in sorted(glob.glob('crates/*/must-fail/*.edit')):
+        put(f, [l[:4] + choice(l[4:]) if l.startswith(('old:', 'new:')) else l for l in open(f, encoding='utf-8')])
+
+
 def main():
+    if '--choice' in sys.argv:
+        choices()
+        return
     to = renamings()
     names = declared() | set(to.values())
     if '--list' in sys.argv:
@@ -113,6 +153,7 @@ def main():
                 specs = l.rstrip().endswith('.antt')
             out.append(turn_edit(l, to, names, specs) if l.startswith(('old:', 'new:')) else turn(l, to, False))
         put(f, ['\n'.join(out)])
+    choices()
 
 
 def put(f, lines):

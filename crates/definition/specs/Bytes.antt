@@ -1,8 +1,8 @@
 -- Frames, options and records as bytes, all numbers big-endian; bytes as lines of lower-case hexadecimal.
 use Rattle.std.specs.Prelude.{Bool, true, false, List, [], ◌∷◌, ◌++◌, ℕ, ◌+◌, ◌*◌, ◌-◌, ◌/◌, ◌%◌, length, get_or, take}
 use Rattle.std.proofs.Math.Option.{Option, none, some}
-use Rattle.definition.specs.Words.{if◌then◌else◌, ◌<?◌, ◌=?◌}
-use Rattle.definition.specs.Events.{Parts, parts_of}
+use Rattle.definition.specs.Words.{when◌then◌else◌, ◌<?◌, ◌=?◌}
+use Rattle.definition.specs.Events.{parts_of}
 use Rattle.definition.specs.Records.{Fields}
 use Rattle.definition.specs.Types.{Options, Event, CheckOut, WarmPool, Abandon, CheckIn, Clear, MarkAsReady, Succeeded, SucceededForPool, Failed, Maintenance, FillPool, Pin, ReturnToPinner, TakeFromPinner, Close, Frame, Good, Bad}
 
@@ -35,7 +35,7 @@ unfoldable pub frame_bytes : Event → (now : ℕ) → List ℕ
 frame_bytes e now = (parts_of e).kind ∷ (parts_of e).flags ∷ 0 ∷ 0 ∷ (be4 (parts_of e).id ++ (be8 now ++ be8 (parts_of e).second))
 
 abbrev pub need : Bool → Frame → Frame
-need b f = if b then f else Bad
+need b f = when b then f else Bad
 
 -- what a kind has no use for is 0: the flags and the second time, and below the id as well
 abbrev pub plain : (flags second : ℕ) → Frame → Frame
@@ -47,35 +47,35 @@ bare flags id second f = need (id =? 0) (plain flags second f)
 -- the low bit: it met an error; the next: an answer is still under way
 abbrev pub check_in_frame : (flags id now second : ℕ) → Frame
 check_in_frame flags id now second =
-    if flags =? 0 then Good (CheckIn id false false second) now else
-    if flags =? 1 then Good (CheckIn id true false second) now else
-    if flags =? 2 then Good (CheckIn id false true second) now else
+    when flags =? 0 then Good (CheckIn id false false second) now else
+    when flags =? 1 then Good (CheckIn id true false second) now else
+    when flags =? 2 then Good (CheckIn id false true second) now else
     need (flags =? 3) (Good (CheckIn id true true second) now)
 
 -- flag 1 network timeout
 abbrev pub clear_frame : (flags id now second : ℕ) → Frame
 clear_frame flags id now second =
-    if flags =? 0 then plain 0 second (Good (Clear false id) now) else
+    when flags =? 0 then plain 0 second (Good (Clear false id) now) else
     need (flags =? 1) (plain 0 second (Good (Clear true id) now))
 
 -- no other number is a kind
 unfoldable pub frame_of_fields : (kind flags id now second : ℕ) → Frame
 frame_of_fields kind flags id now second =
-    if kind =? 1 then plain flags second (Good (CheckOut id) now) else
-    if kind =? 2 then plain flags second (Good (WarmPool id) now) else
-    if kind =? 3 then plain flags second (Good (Abandon id) now) else
-    if kind =? 4 then check_in_frame flags id now second else
-    if kind =? 5 then clear_frame flags id now second else
-    if kind =? 6 then bare flags id second (Good MarkAsReady now) else
-    if kind =? 7 then plain flags second (Good (Succeeded id) now) else
-    if kind =? 8 then plain flags 0 (Good (SucceededForPool id second) now) else
-    if kind =? 9 then plain flags second (Good (Failed id) now) else
-    if kind =? 10 then bare flags id second (Good Maintenance now) else
-    if kind =? 11 then bare flags id second (Good FillPool now) else
-    if kind =? 12 then plain flags second (Good (Pin id) now) else
-    if kind =? 13 then plain flags second (Good (ReturnToPinner id) now) else
-    if kind =? 14 then plain flags second (Good (TakeFromPinner id) now) else
-    if kind =? 15 then bare flags id second (Good Close now) else
+    when kind =? 1 then plain flags second (Good (CheckOut id) now) else
+    when kind =? 2 then plain flags second (Good (WarmPool id) now) else
+    when kind =? 3 then plain flags second (Good (Abandon id) now) else
+    when kind =? 4 then check_in_frame flags id now second else
+    when kind =? 5 then clear_frame flags id now second else
+    when kind =? 6 then bare flags id second (Good MarkAsReady now) else
+    when kind =? 7 then plain flags second (Good (Succeeded id) now) else
+    when kind =? 8 then plain flags 0 (Good (SucceededForPool id second) now) else
+    when kind =? 9 then plain flags second (Good (Failed id) now) else
+    when kind =? 10 then bare flags id second (Good Maintenance now) else
+    when kind =? 11 then bare flags id second (Good FillPool now) else
+    when kind =? 12 then plain flags second (Good (Pin id) now) else
+    when kind =? 13 then plain flags second (Good (ReturnToPinner id) now) else
+    when kind =? 14 then plain flags second (Good (TakeFromPinner id) now) else
+    when kind =? 15 then bare flags id second (Good Close now) else
     Bad
 
 -- any bytes are a frame, if only a bad one
@@ -92,8 +92,8 @@ options_bytes o = 0 ∷ 0 ∷ 0 ∷ 0 ∷ (be4 o.maximum ++ (be4 o.minimum ++ (b
 
 unfoldable pub options_of : List ℕ → Option Options
 options_of b =
-    if length b =? frame_length
-    then (if at4 b 0 =? 0 then some (record { maximum = at4 b 4; minimum = at4 b 8; connecting = at4 b 12; idle = at8 b 16 }) else none)
+    when length b =? frame_length
+    then (when at4 b 0 =? 0 then some (record { maximum = at4 b 4; minimum = at4 b 8; connecting = at4 b 12; idle = at8 b 16 }) else none)
     else none
 
 -- ── Records ────────────────────────────────────────────────────────────────────────────────────────────────────────────
@@ -110,15 +110,15 @@ record_bytes serial r = r.kind ∷ r.reason ∷ 0 ∷ 0 ∷ (be4 serial ++ (be4 
 
 -- the digit of a number below 16: 0 to 9, a to f
 unfoldable pub digit_of : ℕ → ℕ
-digit_of n = if n <? 10 then 48 + n else 87 + n
+digit_of n = when n <? 10 then 48 + n else 87 + n
 
 -- the number of a digit
 unfoldable pub value_of : ℕ → Option ℕ
 value_of c =
-    if c <? 48 then none else
-    if c <? 58 then some (c - 48) else
-    if c <? 97 then none else
-    if c <? 103 then some (c - 87) else
+    when c <? 48 then none else
+    when c <? 58 then some (c - 48) else
+    when c <? 97 then none else
+    when c <? 103 then some (c - 87) else
     none
 
 unfoldable pub hex_of : List ℕ → List ℕ
@@ -146,7 +146,7 @@ line_of bs = hex_of bs ++ newline ∷ []
 
 -- the bytes of a line of 48 digits and a newline
 unfoldable pub bytes_of : List ℕ → Option (List ℕ)
-bytes_of l = if length l =? day_line_length then (if get_or l 48 0 =? newline then unhex (take 48 l) else none) else none
+bytes_of l = when length l =? day_line_length then (when get_or l 48 0 =? newline then unhex (take 48 l) else none) else none
 
 abbrev pub or_bad : Option (List ℕ) → Frame
 or_bad none = Bad

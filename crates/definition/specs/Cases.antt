@@ -1,10 +1,10 @@
 -- The description's day, its idle edges and its two calls with id 5: ten cases, one statement; the whole day as text, and one with
 -- refused lines; and a record of each kind in bytes.
 use Rattle.std.specs.Prelude.{◌≡◌, refl, true, false, List, [], ◌∷◌, ◌++◌, map, ℕ, zero, suc, ◌/◌, ◌%◌, take, get_or}
-use Rattle.definition.specs.Words.{if◌then◌else◌}
+use Rattle.definition.specs.Words.{when◌then◌else◌}
 use Rattle.definition.specs.Pool.{Pool, fresh, with_defaults, in_range}
 use Rattle.definition.specs.Records.{Record, ConnectionCreated, ConnectionReady, ConnectionCheckedIn, ConnectionClosed, PoolReady, PoolCleared, PoolShut, Interrupt, Replied, Pooled, Establishing, Warmed, Cleared, Gone, Unheard, told, fields_of}
-use Rattle.definition.specs.Steps.{◌>>◌, leave_lent, leave_pending, shelve, lend_out, create_pending_connection, create_many, close_perished, tell_all, enter, queue, request, abandon, check_in, clear, mark_as_ready, succeeded, succeeded_for_pool, failed, remove_perished, ensure_min_connections, maintenance, repin, shut, handle, can_service, establish, lend, take_available, check_out, serve_front, service, event}
+use Rattle.definition.specs.Steps.{◌>>◌, leave_lent, leave_pending, shelve, lend_out, create_pending_connection, create_many, close_perished, enter, queue, request, check_in, mark_as_ready, succeeded, remove_perished, ensure_min_connections, maintenance, handle, can_service, establish, lend, take_available, check_out, serve_front, service, event}
 use Rattle.definition.specs.Refusals.{refusal_no, first, tests, Result, Refused, Accepted, outcome, step, Call, run, enough_room, make}
 use Rattle.definition.specs.Bytes.{be4, be8, at4, at8, frame_of_fields, frame_of, options_of, record_bytes, digit_of, value_of, hex_of, unhex, newline, line_of, bytes_of, frame_of_line, options_of_line}
 use Rattle.definition.specs.Day.{numbered, entry_bytes, text_of, lines_of, frames, day, log_of, frames_used}
@@ -87,7 +87,7 @@ answered c =
     answer_of p (step p (frame_of c.given) enough_room)
 
 pub ten_cases : map answered cases ≡ map expected cases
-unfolding answered cases day_case the_day five maintain run step tests first outcome frame_of frame_of_fields at4 at8 event handle request queue mark_as_ready succeeded check_in maintenance remove_perished close_perished ensure_min_connections create_many service can_service serve_front check_out take_available lend establish create_pending_connection told leave_lent leave_pending shelve lend_out enter ◌>>◌ if◌then◌else◌ numbered entry_bytes record_bytes
+unfolding answered cases day_case the_day five maintain run step tests first outcome frame_of frame_of_fields at4 at8 event handle request queue mark_as_ready succeeded check_in maintenance remove_perished close_perished ensure_min_connections create_many service can_service serve_front check_out take_available lend establish create_pending_connection told leave_lent leave_pending shelve lend_out enter ◌>>◌ when◌then◌else◌ numbered entry_bytes record_bytes
 ten_cases = refl
 
 -- ── The whole day ──────────────────────────────────────────────────────────────────────────────────────────────────────
@@ -125,11 +125,11 @@ day_log =
     0x04030000_00000007_00000001_00000000 ∷ [])
 
 pub whole_day : log_of 100 day_text ≡ day_log
-unfolding day_text day_log in_lines digits log_of text_of day lines_of frames make in_range options_of_line options_of frame_of_line bytes_of unhex value_of digit_of line_of hex_of step tests first outcome frame_of frame_of_fields at4 at8 event handle request queue mark_as_ready succeeded check_in service can_service serve_front check_out take_available lend establish create_pending_connection told leave_lent leave_pending shelve lend_out enter ◌>>◌ if◌then◌else◌ numbered entry_bytes record_bytes
+unfolding day_text day_log in_lines digits log_of text_of day lines_of frames make in_range options_of_line options_of frame_of_line bytes_of unhex value_of digit_of line_of hex_of step tests first outcome frame_of frame_of_fields at4 at8 event handle request queue mark_as_ready succeeded check_in service can_service serve_front check_out take_available lend establish create_pending_connection told leave_lent leave_pending shelve lend_out enter ◌>>◌ when◌then◌else◌ numbered entry_bytes record_bytes
 whole_day = refl
 
 pub whole_day_used : frames_used 100 day_text ≡ 6
-unfolding frames_used day_text in_lines digits day lines_of make in_range options_of_line options_of bytes_of unhex value_of digit_of at4 at8 if◌then◌else◌
+unfolding frames_used day_text in_lines digits day lines_of make in_range options_of_line options_of bytes_of unhex value_of digit_of at4 at8 when◌then◌else◌
 whole_day_used = refl
 
 -- ── Refused lines ──────────────────────────────────────────────────────────────────────────────────────────────────────
@@ -156,12 +156,12 @@ longer_log =
     0x20020000_00000000_0000000b_00000000 ∷ [])
 
 pub refused_lines : log_of 100 longer_text ≡ longer_log
-unfolding longer_text longer_log day_text day_log in_lines digits log_of text_of day lines_of frames make in_range options_of_line options_of frame_of_line bytes_of unhex value_of digit_of line_of hex_of step tests first outcome frame_of frame_of_fields at4 at8 event handle request queue mark_as_ready succeeded check_in service can_service serve_front check_out take_available lend establish create_pending_connection told leave_lent leave_pending shelve lend_out enter ◌>>◌ if◌then◌else◌ numbered entry_bytes record_bytes
+unfolding longer_text longer_log day_text day_log in_lines digits log_of text_of day lines_of frames make in_range options_of_line options_of frame_of_line bytes_of unhex value_of digit_of line_of hex_of step tests first outcome frame_of frame_of_fields at4 at8 event handle request queue mark_as_ready succeeded check_in service can_service serve_front check_out take_available lend establish create_pending_connection told leave_lent leave_pending shelve lend_out enter ◌>>◌ when◌then◌else◌ numbered entry_bytes record_bytes
 refused_lines = refl
 
 -- they count as frames used, as far as the budget goes
 pub refused_lines_used : (frames_used 100 longer_text ≡ 10) × (frames_used 9 longer_text ≡ 9)
-unfolding frames_used longer_text day_text in_lines digits day lines_of make in_range options_of_line options_of bytes_of unhex value_of digit_of at4 at8 if◌then◌else◌
+unfolding frames_used longer_text day_text in_lines digits day lines_of make in_range options_of_line options_of bytes_of unhex value_of digit_of at4 at8 when◌then◌else◌
 refused_lines_used = (refl, refl)
 
 -- a first line that is none, that does not begin with zeros, that asks for 65: that one record, and nothing of what follows
@@ -172,11 +172,11 @@ pub refused_options :
     (log_of 100 [] ≡ in_lines 32 (0x20020000_00000000_00000001_00000000 ∷ []))
     × (log_of 100 (bad_start 0x01000000_00000000_0000000000000000_0000000000000000) ≡ in_lines 32 (0x20020000_00000000_00000001_00000000 ∷ []))
     × (log_of 100 (bad_start 0x00000000_00000041_0000000000000000_0000000000000000) ≡ in_lines 32 (0x200a0000_00000000_00000001_00000000 ∷ []))
-unfolding bad_start in_lines digits log_of text_of day lines_of make in_range options_of_line options_of bytes_of unhex value_of digit_of line_of hex_of at4 at8 if◌then◌else◌ entry_bytes record_bytes
+unfolding bad_start in_lines digits log_of text_of day lines_of make in_range options_of_line options_of bytes_of unhex value_of digit_of line_of hex_of at4 at8 when◌then◌else◌ entry_bytes record_bytes
 refused_options = (refl, refl, refl)
 
 pub refused_options_used : frames_used 100 (bad_start 0x00000000_00000041_0000000000000000_0000000000000000) ≡ 0
-unfolding frames_used bad_start in_lines digits day lines_of make in_range options_of_line options_of bytes_of unhex value_of digit_of at4 at8 if◌then◌else◌
+unfolding frames_used bad_start in_lines digits day lines_of make in_range options_of_line options_of bytes_of unhex value_of digit_of at4 at8 when◌then◌else◌
 refused_options_used = refl
 
 -- ── A record of each kind ──────────────────────────────────────────────────────────────────────────────────────────────
@@ -195,5 +195,5 @@ pub each_record :
     said 0x04010000 7 1 6 ∷ said 0x04020000 7 1 0 ∷ said 0x04030000 7 1 0 ∷ said 0x04040000 7 1 0 ∷ said 0x04050000 7 1 0 ∷
     said 0x05000000 7 0 0 ∷ said 0x06000000 7 3 4 ∷ said 0x06010000 7 3 4 ∷ said 0x07000000 7 0 0 ∷ said 0x08000000 7 0 5 ∷
     said 0x10000000 7 2 1 ∷ said 0x11000000 7 2 1 ∷ said 0x12000000 7 2 0 ∷ said 0x13000000 7 2 3 ∷ said 0x14000000 7 2 0 ∷ said 0x15000000 7 2 0 ∷ []
-unfolding in_bytes record_bytes if◌then◌else◌
+unfolding in_bytes record_bytes when◌then◌else◌
 each_record = refl

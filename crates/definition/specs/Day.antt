@@ -1,10 +1,9 @@
 -- A whole day's text gives its log's text. Any bytes at all are a day.
 use Rattle.std.specs.Prelude.{List, [], ◌∷◌, ◌++◌, ℕ, ◌+◌, ◌%◌, min, length, take}
 use Rattle.std.proofs.Math.Option.{Option, none, some}
-use Rattle.definition.specs.Words.{if◌then◌else◌, ◌=?◌}
+use Rattle.definition.specs.Words.{when◌then◌else◌, ◌=?◌}
 use Rattle.definition.specs.Pool.{Pool}
-use Rattle.definition.specs.Records.{Record, Fields, fields, fields_of}
-use Rattle.definition.specs.Steps.{Out}
+use Rattle.definition.specs.Records.{Record, fields, fields_of}
 use Rattle.definition.specs.Refusals.{refusal_no, Result, Refused, Accepted, step, after, enough_room, Making, NotMade, Made, make}
 use Rattle.definition.specs.Bytes.{serial_of, record_bytes, newline, line_of, frame_of_line, options_of_line}
 use Rattle.definition.specs.Types.{Options, Refusal, Malformed}
@@ -18,7 +17,7 @@ before c (l ∷ ls) = (c ∷ l) ∷ ls
 -- each newline ends one, however long it is; what stands behind the last newline is a line too
 unfoldable pub lines_of : List ℕ → List (List ℕ)
 lines_of [] = []
-lines_of (c ∷ t) = if c =? newline then (c ∷ []) ∷ lines_of t else before c (lines_of t)
+lines_of (c ∷ t) = when c =? newline then (c ∷ []) ∷ lines_of t else before c (lines_of t)
 
 -- ── The log ────────────────────────────────────────────────────────────────────────────────────────────────────────────
 

@@ -3,7 +3,7 @@
 use Rattle.std.specs.Prelude.{◌≡◌, refl, Bool, true, false, List, [], ◌∷◌, ◌++◌, map, ℕ, ◌+◌, ◌*◌, ◌/◌, ◌%◌, ◌≤◌, ◌<◌, length, drop}
 use Rattle.std.proofs.Common.{ap, sym, ◌∙◌, true≢false, append_assoc, arith, length-append, ne_eqb, lt-ltb, le-ltb}
 use Rattle.std.proofs.Math.Option.{Option, none, some}
-use Rattle.definition.specs.Words.{if◌then◌else◌, ◌<?◌, ◌=?◌, any?}
+use Rattle.definition.specs.Words.{when◌then◌else◌, ◌<?◌, ◌=?◌, any?}
 use Rattle.definition.specs.Booleans.{by_bool}
 use Rattle.definition.specs.Pool.{Pool}
 use Rattle.definition.specs.Steps.{Out}
@@ -30,8 +30,8 @@ pub data AllWritable : List Frame → Type 0 where
 
 -- ── Written, then read ─────────────────────────────────────────────────────────────────────────────────────────────────
 
-digit_cases : (n : ℕ) (b : Bool) → (if b then 48 + n else 87 + n) =? newline ≡ false
-unfolding if◌then◌else◌
+digit_cases : (n : ℕ) (b : Bool) → (when b then 48 + n else 87 + n) =? newline ≡ false
+unfolding when◌then◌else◌
 digit_cases n true = ne_eqb (48 + n) 10 (λ e. omega arith)
 digit_cases n false = ne_eqb (87 + n) 10 (λ e. omega arith)
 
@@ -41,7 +41,7 @@ unfolding digit_of
 no_newline n = digit_cases n (n <? 10)
 
 digits_first : (bs t : List ℕ) → lines_of (hex_of bs ++ newline ∷ t) ≡ (hex_of bs ++ newline ∷ []) ∷ lines_of t
-unfolding lines_of hex_of if◌then◌else◌
+unfolding lines_of hex_of when◌then◌else◌
 digits_first [] t = refl
 digits_first (b ∷ bs) t = rw (no_newline (b / 16), no_newline (b % 16), digits_first bs t)
 
@@ -75,8 +75,8 @@ before_joined : (c : ℕ) (ls : List (List ℕ)) → joined (before c ls) ≡ c 
 before_joined c [] = refl
 before_joined c (l ∷ ls) = refl
 
-one_joined : (c : ℕ) (b : Bool) (ls : List (List ℕ)) → joined (if b then (c ∷ []) ∷ ls else before c ls) ≡ c ∷ joined ls
-unfolding if◌then◌else◌
+one_joined : (c : ℕ) (b : Bool) (ls : List (List ℕ)) → joined (when b then (c ∷ []) ∷ ls else before c ls) ≡ c ∷ joined ls
+unfolding when◌then◌else◌
 one_joined c true ls = refl
 one_joined c false ls = before_joined c ls
 
@@ -88,7 +88,7 @@ lines_joined (c ∷ t) = one_joined c (c =? newline) (lines_of t) ∙ ap (λ (l 
 
 -- where none is malformed, the first is not, and none of the others
 pub sound_first : (f : Frame) (fs : List Frame) → any? malformed (f ∷ fs) ≡ false → (malformed f ≡ false) × (any? malformed fs ≡ false)
-unfolding if◌then◌else◌
+unfolding when◌then◌else◌
 sound_first f fs h = by_bool (malformed f) (λ t. absurd (true≢false (rw t at h))) (λ t. (t, rw t at h))
 
 -- lines that are read as events are the events' lines
@@ -153,15 +153,15 @@ day_length o fs h = length-append (options_line o) (event_lines fs) ∙ omega (a
 -- room comes first, whatever the events are
 module _ (room lines : ℕ) (fs : List Frame) where
   pub short_first : room < day_line_length * lines → first (writing_tests room lines fs) ≡ some OutputShort
-  unfolding writing_tests first if◌then◌else◌
+  unfolding writing_tests first when◌then◌else◌
   short_first h = rw (lt-ltb room (day_line_length * lines) h)
 
   pub malformed_next : day_line_length * lines ≤ room → any? malformed fs ≡ true → first (writing_tests room lines fs) ≡ some Malformed
-  unfolding writing_tests first if◌then◌else◌
+  unfolding writing_tests first when◌then◌else◌
   malformed_next h t = rw (le-ltb room (day_line_length * lines) h, t)
 
   pub all_pass : day_line_length * lines ≤ room → any? malformed fs ≡ false → first (writing_tests room lines fs) ≡ none
-  unfolding writing_tests first if◌then◌else◌
+  unfolding writing_tests first when◌then◌else◌
   all_pass h s = rw (le-ltb room (day_line_length * lines) h, s)
 
   pub passed_sound : first (writing_tests room lines fs) ≡ none → any? malformed fs ≡ false
@@ -175,14 +175,14 @@ abbrev for_malformed : Test → Bool
 for_malformed (r if b) = refusal_no r =? 2
 
 never_malformed : (ts : List Test) → any? for_malformed ts ≡ false → first ts ≡ some Malformed → ⊥
-unfolding first if◌then◌else◌
+unfolding first when◌then◌else◌
 never_malformed [] n h = let z : ◌≡◌ {A = ℕ} 0 1 = cc in absurd (omega arith)
 never_malformed ((r if true) ∷ ts) n h = let e : r ≡ Malformed = cc in absurd (true≢false (rw e at n))
 never_malformed ((r if false) ∷ ts) n h =
     by_bool (refusal_no r =? 2) (λ t. absurd (true≢false (rw t at n))) (λ t. never_malformed ts (rw t at n) h)
 
 kind_never : (p : Pool) (e : Event) (now : ℕ) → any? for_malformed (kind_tests p e now) ≡ false
-unfolding if◌then◌else◌
+unfolding when◌then◌else◌
 kind_never p (CheckOut n) now = refl
 kind_never p (WarmPool n) now = refl
 kind_never p (Abandon n) now = refl
@@ -201,7 +201,7 @@ kind_never p Close now = refl
 
 -- the pool refuses it as malformed, whatever its state
 pub malformed_refused : (p : Pool) (f : Frame) → malformed f ≡ true → step p f enough_room ≡ Refused Malformed
-unfolding step tests first if◌then◌else◌
+unfolding step tests first when◌then◌else◌
 malformed_refused p Bad h = refl
 malformed_refused p (Good e now) h = rw h
 
@@ -211,10 +211,10 @@ refusal_in_lem (some s) o r h = let e : s ≡ r = cc in ap some e
 
 -- and nothing else
 pub refused_malformed : (p : Pool) (f : Frame) → step p f enough_room ≡ Refused Malformed → malformed f ≡ true
-unfolding step tests first if◌then◌else◌
+unfolding step tests first when◌then◌else◌
 refused_malformed p Bad h = refl
 refused_malformed p (Good e now) h =
     let others : List Test = drop 2 (tests p (Good e now) enough_room) in
-    let g : (if causeless e then some Malformed else first others) ≡ some Malformed =
+    let g : (when causeless e then some Malformed else first others) ≡ some Malformed =
     refusal_in_lem (first (tests p (Good e now) enough_room)) (outcome (Good e now) p) Malformed h in
     by_bool (causeless e) (λ t. t) (λ t. absurd (never_malformed others (kind_never p e now) (rw t at g)))

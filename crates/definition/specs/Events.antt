@@ -1,6 +1,6 @@
 -- What an event carries, field by field as a frame does.
-use Rattle.std.specs.Prelude.{Bool, true, false, ℕ, ◌+◌}
-use Rattle.definition.specs.Words.{if◌then◌else◌}
+use Rattle.std.specs.Prelude.{Bool, ℕ, ◌+◌}
+use Rattle.definition.specs.Words.{when◌then◌else◌}
 use Rattle.definition.specs.Types.{Event, CheckOut, WarmPool, Abandon, CheckIn, Clear, MarkAsReady, Succeeded, SucceededForPool, Failed, Maintenance, FillPool, Pin, ReturnToPinner, TakeFromPinner, Close}
 
 pub record Parts : Type 0 where
@@ -13,7 +13,7 @@ abbrev pub parts : ℕ → ℕ → ℕ → ℕ → Parts
 parts k f i t = record { kind = k; flags = f; id = i; second = t }
 
 abbrev pub bit : ℕ → Bool → ℕ
-bit n b = if b then n else 0
+bit n b = when b then n else 0
 
 abbrev pub parts_of : Event → Parts
 parts_of (CheckOut n) = parts 1 0 n 0

@@ -1,12 +1,12 @@
 -- Reading digits undoes writing them, and the other way round; numbers as bytes likewise.
-use Rattle.std.specs.Prelude.{◌≡◌, refl, Bool, true, false, List, [], ◌∷◌, ◌++◌, length, get_or, drop, take}
+use Rattle.std.specs.Prelude.{◌≡◌, refl, Bool, true, false, List, [], ◌∷◌, ◌++◌, length, get_or, drop}
 use Rattle.std.proofs.Math.Path.{ap, sym}
 use Rattle.std.proofs.Common.{◌∙◌, div-add-mod', drop_of_length-le, length-append, drop-cons, ltb-true, ltb-false, lt-ltb, le-ltb}
 use Rattle.std.proofs.Math.Option.{Option, none, some}
 use Prim.Native.Nat.{ℕ, zero, suc, ◌+◌, ◌*◌, ◌-◌, ◌/◌, ◌%◌, ◌<◌, ◌≤◌}
 use native.Mathlib.Omega.{arith}
 use Rattle.std.proofs.Math.Nat.{div-div-eq-div-mul}
-use Rattle.definition.specs.Words.{if◌then◌else◌, ◌<?◌}
+use Rattle.definition.specs.Words.{when◌then◌else◌, ◌<?◌}
 use Rattle.definition.specs.Bytes.{digit_of, value_of, hex_of, line_of, unhex, paired, be4, be8, at4, at8}
 
 -- a digit and its number
@@ -15,8 +15,8 @@ pub record Digit (c v : ℕ) : Type 0 where
   pub same : c ≡ digit_of v
 
 value_cases : (c v : ℕ) (b₁ b₂ b₃ b₄ : Bool) → c <? 48 ≡ b₁ → c <? 58 ≡ b₂ → c <? 97 ≡ b₃ → c <? 103 ≡ b₄
-    → (if b₁ then none else if b₂ then some (c - 48) else if b₃ then none else if b₄ then some (c - 87) else none) ≡ some v → Digit c v
-unfolding digit_of if◌then◌else◌
+    → (when b₁ then none else when b₂ then some (c - 48) else when b₃ then none else when b₄ then some (c - 87) else none) ≡ some v → Digit c v
+unfolding digit_of when◌then◌else◌
 value_cases c v true b₂ b₃ b₄ t₁ t₂ t₃ t₄ e = let z : ◌≡◌ {A = ℕ} 0 1 = cc in absurd (omega arith)
 value_cases c v false true b₃ b₄ t₁ t₂ t₃ t₄ e =
     let h : c - 48 ≡ v = cc in
@@ -35,8 +35,8 @@ pub value_digit : (c v : ℕ) → value_of c ≡ some v → Digit c v
 unfolding value_of
 value_digit c v e = value_cases c v (c <? 48) (c <? 58) (c <? 97) (c <? 103) refl refl refl refl e
 
-digit_cases : (n : ℕ) (b : Bool) → n <? 10 ≡ b → n < 16 → value_of (if b then 48 + n else 87 + n) ≡ some n
-unfolding value_of if◌then◌else◌
+digit_cases : (n : ℕ) (b : Bool) → n <? 10 ≡ b → n < 16 → value_of (when b then 48 + n else 87 + n) ≡ some n
+unfolding value_of when◌then◌else◌
 digit_cases n true t h =
     let l : n < 10 = ltb-true n 10 t in
     let h₁ : 48 ≤ 48 + n = omega arith in let h₂ : 48 + n < 58 = omega arith in

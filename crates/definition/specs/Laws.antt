@@ -2,14 +2,14 @@
 use Rattle.std.specs.Prelude.{◌≡◌, refl, Bool, true, false, List, [], ◌∷◌, ℕ, zero, suc, ◌≤◌, length}
 use Rattle.std.proofs.Math.Option.{none}
 use Rattle.std.proofs.Common.{arith, eqb-true}
-use Rattle.definition.specs.Words.{if◌then◌else◌, ◌=?◌}
+use Rattle.definition.specs.Words.{when◌then◌else◌, ◌=?◌}
 use Rattle.definition.specs.Pool.{Conn, find, state_no, state_of_no}
 use Rattle.definition.specs.Refusals.{Test, ◌if◌, first}
 use Rattle.definition.specs.Steps.{kind_no}
-use Rattle.definition.specs.Types.{Event, CheckOut, WarmPool, Abandon, CheckIn, Clear, MarkAsReady, Succeeded, SucceededForPool, Failed, Maintenance, FillPool, Pin, ReturnToPinner, TakeFromPinner, Close, PinnedState, InUse, Returned, Purpose, Request, Background, ConnectionState, Vacant, CheckedIn, CheckedOut, Pinned, Pending, Refusal}
+use Rattle.definition.specs.Types.{Event, CheckOut, WarmPool, Abandon, CheckIn, Clear, MarkAsReady, Succeeded, SucceededForPool, Failed, Maintenance, FillPool, Pin, ReturnToPinner, TakeFromPinner, Close, InUse, Returned, Request, Background, ConnectionState, Vacant, CheckedIn, CheckedOut, Pinned, Pending, Refusal}
 
-found : (n : ℕ) (c d : Conn) (b : Bool) → (c.id =? n) ≡ b → d.id ≡ n → (if b then c else d).id ≡ n
-unfolding if◌then◌else◌
+found : (n : ℕ) (c d : Conn) (b : Bool) → (c.id =? n) ≡ b → d.id ≡ n → (when b then c else d).id ≡ n
+unfolding when◌then◌else◌
 found n c d true e h = eqb-true c.id n e
 found n c d false e h = h
 
@@ -40,7 +40,7 @@ number_back (suc (suc (suc (suc (suc (suc (suc n))))))) h = absurd (omega arith)
 
 -- where no test refuses, the first does not, and none of the others
 pub not_first : (r : Refusal) (b : Bool) (ts : List Test) → first ((r if b) ∷ ts) ≡ none → (b ≡ false) × (first ts ≡ none)
-unfolding if◌then◌else◌ first
+unfolding when◌then◌else◌ first
 not_first r true ts e = let z : ◌≡◌ {A = ℕ} 0 1 = cc in absurd (omega arith)
 not_first r false ts e = (refl, e)
 

@@ -1,6 +1,6 @@
 -- What is read off a log and off the lists of a pool.
 use Rattle.std.specs.Prelude.{List, [], ◌∷◌, ◌++◌, map, ℕ, ◌+◌, ◌<◌}
-use Rattle.definition.specs.Words.{if◌then◌else◌, ◌=?◌}
+use Rattle.definition.specs.Words.{when◌then◌else◌, ◌=?◌}
 use Rattle.definition.specs.Pool.{Conn, Waiter}
 use Rattle.definition.specs.Records.{Record, ConnectionCreated, ConnectionReady, ConnectionCheckedIn, ConnectionClosed, PoolReady, PoolCleared, PoolShut, Interrupt, Replied}
 
@@ -69,7 +69,7 @@ sum_of weight (n ∷ l) = weight n + sum_of weight l
 
 -- how often i stands in a list
 abbrev pub often : ℕ → List ℕ → ℕ
-often i = sum_of (λ n. if n =? i then 1 else 0)
+often i = sum_of (λ n. when n =? i then 1 else 0)
 
 -- each above the one before, and the first above lo
 abbrev pub Rising : ℕ → List ℕ → Type 0

@@ -1,7 +1,7 @@
 -- What a pool is: its options, its connections in three lists, its queue, and the numbers that it goes on from.
 use Rattle.std.specs.Prelude.{Bool, true, false, not, ◌&&◌, ◌||◌, List, [], ◌∷◌, ℕ, zero, suc, ◌+◌, ◌-◌, min, length}
-use Rattle.definition.specs.Words.{if◌then◌else◌, ◌<?◌, ◌≤?◌, ◌=?◌, any?}
-use Rattle.definition.specs.Types.{Options, PoolState, New, Paused, Ready, Closed, PinnedState, InUse, Returned, Purpose, Request, Background, ConnectionState, Vacant, CheckedIn, CheckedOut, Pinned, Pending}
+use Rattle.definition.specs.Words.{when◌then◌else◌, ◌<?◌, ◌≤?◌, ◌=?◌, any?}
+use Rattle.definition.specs.Types.{Options, PoolState, New, Paused, Ready, Closed, InUse, Returned, Purpose, Request, Background, ConnectionState, Vacant, CheckedIn, CheckedOut, Pinned, Pending}
 
 -- ── Options ────────────────────────────────────────────────────────────────────────────────────────────────────────────
 
@@ -19,7 +19,7 @@ abbrev pub default_max_connecting : ℕ
 default_max_connecting = 2
 
 abbrev pub or_default : ℕ → ℕ → ℕ
-or_default default n = if n =? 0 then default else n
+or_default default n = when n =? 0 then default else n
 
 -- a 0 takes the default; that of the minimum is 0, and an idle limit of 0 means never
 abbrev pub with_defaults : Options → Options
@@ -147,7 +147,7 @@ stale_in generation of = not (of =? generation)
 -- The idle test answers with the age, the milliseconds since the connection became available, where that reaches the limit, and
 -- else with 0. A limit of 0 makes nothing idle, so the age of an idle one is never 0.
 abbrev pub idle_for : (limit since now : ℕ) → ℕ
-idle_for limit since now = if 0 <? limit && limit ≤? now - since then now - since else 0
+idle_for limit since now = when 0 <? limit && limit ≤? now - since then now - since else 0
 
 -- the most that a record can say of an age
 abbrev pub most_age : ℕ
@@ -155,7 +155,7 @@ most_age = 4294967295
 
 -- what is told of a perished one as it is closed: nothing of a stale one, be it idle or not; of an idle one its age
 abbrev pub age_told : (stale : Bool) → (idle : ℕ) → ℕ
-age_told stale idle = if stale then 0 else min idle most_age
+age_told stale idle = when stale then 0 else min idle most_age
 
 module _ (p : Pool) (c : Conn) where
   abbrev pub stale : Bool
@@ -175,7 +175,7 @@ has n = any? (λ c. c.id =? n)
 -- the one of that number; where there is none, a blank one
 abbrev pub find : ℕ → List Conn → Conn
 find n [] = no_conn n
-find n (c ∷ cs) = if c.id =? n then c else find n cs
+find n (c ∷ cs) = when c.id =? n then c else find n cs
 
 -- there is one of that number, in such a state
 abbrev pub has_in : (ConnectionState → Bool) → ℕ → List Conn → Bool
@@ -184,12 +184,12 @@ has_in such n l = has n l && such (find n l).state
 -- the list without it
 abbrev pub without : ℕ → List Conn → List Conn
 without n [] = []
-without n (c ∷ cs) = if c.id =? n then cs else c ∷ without n cs
+without n (c ∷ cs) = when c.id =? n then cs else c ∷ without n cs
 
 -- the list with that one in another state
 abbrev pub set_state : ConnectionState → ℕ → ℕ → List Conn → List Conn
 set_state s t n [] = []
-set_state s t n (c ∷ cs) = if c.id =? n then with_state s t c ∷ cs else c ∷ set_state s t n cs
+set_state s t n (c ∷ cs) = when c.id =? n then with_state s t c ∷ cs else c ∷ set_state s t n cs
 
 -- the states by number, to tell them apart
 abbrev pub state_no : ConnectionState → ℕ

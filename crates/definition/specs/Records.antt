@@ -1,6 +1,6 @@
 -- What a pool says: records of what happened, and replies to requests.
-use Rattle.std.specs.Prelude.{Bool, true, false, List, ℕ, ◌+◌, ◌*◌}
-use Rattle.definition.specs.Words.{if◌then◌else◌}
+use Rattle.std.specs.Prelude.{Bool, ℕ, ◌+◌, ◌*◌}
+use Rattle.definition.specs.Words.{when◌then◌else◌}
 use Rattle.definition.specs.Pool.{Waiter}
 use Rattle.definition.specs.Types.{ClosedReason, Idle, Stale, Error, Dropped, PoolClosed}
 
@@ -21,7 +21,7 @@ pub data Record : Type 0 where
 
 -- what a waiter is told: 21 in the reply's place where it was abandoned
 unfoldable pub told : Reply → Waiter → Record
-told r w = Replied w.id (if w.abandoned then Unheard else r)
+told r w = Replied w.id (when w.abandoned then Unheard else r)
 
 -- ── Their numbers ──────────────────────────────────────────────────────────────────────────────────────────────────────
 
@@ -63,7 +63,7 @@ fields_of (ConnectionReady c) = fields 2 0 c 0
 fields_of (ConnectionCheckedIn c) = fields 3 0 c 0
 fields_of (ConnectionClosed r c other) = fields 4 (reason_no r) c other
 fields_of PoolReady = fields 5 0 0 0
-fields_of (PoolCleared timeout cause generation) = fields 6 (if timeout then 1 else 0) cause generation
+fields_of (PoolCleared timeout cause generation) = fields 6 (when timeout then 1 else 0) cause generation
 fields_of PoolShut = fields 7 0 0 0
 fields_of (Interrupt lent) = fields 8 0 0 lent
 fields_of (Replied request r) = reply_fields request r

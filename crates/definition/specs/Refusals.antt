@@ -1,7 +1,7 @@
 -- The twelve refusals, one call, and a run of calls.
 use Rattle.std.specs.Prelude.{Bool, true, false, not, ◌&&◌, ◌||◌, List, [], ◌∷◌, ℕ, zero, suc, ◌+◌, ◌-◌, ◌*◌, ◌/◌, length}
 use Rattle.std.proofs.Math.Option.{Option, none, some}
-use Rattle.definition.specs.Words.{if◌then◌else◌, ◌<?◌, ◌≤?◌, ◌=?◌, any?}
+use Rattle.definition.specs.Words.{when◌then◌else◌, ◌<?◌, ◌≤?◌, ◌=?◌, any?}
 use Rattle.definition.specs.Pool.{Pool, fresh, slot_count, queue_length, with_defaults, in_range, with_clock, with_written, is_closed, has, has_in, find, unpinned, pinned, pinned_in_use, for_request, in_background}
 use Rattle.definition.specs.Events.{parts_of}
 use Rattle.definition.specs.Records.{record_length}
@@ -30,7 +30,7 @@ pub data Test : Type 0 where
 -- the first test that holds
 unfoldable pub first : List Test → Option Refusal
 first [] = none
-first ((r if b) ∷ ts) = if b then some r else first ts
+first ((r if b) ∷ ts) = when b then some r else first ts
 
 abbrev pick : Bool → ℕ → ℕ → ℕ
 pick true a b = a
@@ -164,4 +164,4 @@ pub data Making : Type 0 where
 
 -- a 0 is never out of range where it means the default
 unfoldable pub make : Options → Making
-make o = if in_range (with_defaults o) then Made (fresh (with_defaults o)) else NotMade OptionsOutOfRange
+make o = when in_range (with_defaults o) then Made (fresh (with_defaults o)) else NotMade OptionsOutOfRange

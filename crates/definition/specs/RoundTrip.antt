@@ -1,11 +1,11 @@
 -- An event's line, read, is the event; a line that is read as an event is that event's line. Options likewise.
-use Rattle.std.specs.Prelude.{◌≡◌, refl, Bool, true, false, List, [], ◌∷◌, ◌++◌, ℕ, ◌+◌, ◌*◌, ◌/◌, ◌%◌, ◌<◌, ◌≤◌, length, get_or, take, drop}
+use Rattle.std.specs.Prelude.{◌≡◌, refl, Bool, true, false, List, [], ◌∷◌, ◌++◌, ℕ, ◌*◌, ◌/◌, ◌%◌, ◌<◌, length, get_or, take, drop}
 use Rattle.std.proofs.Common.{ap, sym, ◌∙◌, arith, length-append, length-take, drop_of_length-le, take-append-drop, take_at, drop-cons, eqb-true}
 use Rattle.std.proofs.Math.Option.{Option, none, some}
 use Rattle.std.proofs.lemmas.List.{get_or_at}
-use Rattle.definition.specs.Words.{if◌then◌else◌, ◌=?◌}
+use Rattle.definition.specs.Words.{when◌then◌else◌, ◌=?◌}
 use Rattle.definition.specs.Events.{parts_of}
-use Rattle.definition.specs.Bytes.{be4, be8, at4, at8, need, plain, bare, check_in_frame, clear_frame, frame_of_fields, frame_of, frame_bytes, options_of, options_bytes, newline, hex_of, unhex, line_of, bytes_of, or_bad, or_none, frame_of_line, options_of_line}
+use Rattle.definition.specs.Bytes.{be4, be8, at4, at8, need, plain, bare, check_in_frame, clear_frame, frame_of_fields, frame_of, frame_bytes, options_of, options_bytes, hex_of, line_of, bytes_of, or_bad, or_none, frame_of_line, options_of_line}
 use Rattle.definition.specs.HexLaws.{Bytes, none8, more8, unhex_hex_of, unhex_read, Read, length_hex_of, get_d_small, drop_spread, be4_bytes, at4_be4, at8_be8, small4, small8, four, eight}
 use Rattle.definition.specs.Types.{Event, CheckOut, WarmPool, Abandon, CheckIn, Clear, MarkAsReady, Succeeded, SucceededForPool, Failed, Maintenance, FillPool, Pin, ReturnToPinner, TakeFromPinner, Close, Frame, Good, Bad, Options}
 
@@ -18,7 +18,7 @@ pub record Writable (e : Event) (now : ℕ) : Type 0 where
 -- ── Written, then read ─────────────────────────────────────────────────────────────────────────────────────────────────
 
 fields_good : (e : Event) (now : ℕ) → frame_of_fields (parts_of e).kind (parts_of e).flags (parts_of e).id now (parts_of e).second ≡ Good e now
-unfolding frame_of_fields if◌then◌else◌
+unfolding frame_of_fields when◌then◌else◌
 fields_good (CheckOut n) now = refl
 fields_good (WarmPool n) now = refl
 fields_good (Abandon n) now = refl
@@ -40,13 +40,13 @@ fields_good (TakeFromPinner n) now = refl
 fields_good Close now = refl
 
 pub frame_good : (e : Event) (now : ℕ) → Writable e now → frame_of (frame_bytes e now) ≡ Good e now
-unfolding frame_of frame_bytes at4 at8 if◌then◌else◌
+unfolding frame_of frame_bytes at4 at8 when◌then◌else◌
 frame_good e now w =
     rw (at4_be4 (parts_of e).id w.id, at8_be8 now w.time, at8_be8 (parts_of e).second w.second) (fields_good e now)
 
 -- kind and flags are bytes
 head_small : (e : Event) → ((parts_of e).kind < 256) × ((parts_of e).flags < 256)
-unfolding if◌then◌else◌
+unfolding when◌then◌else◌
 head_small (CheckOut n) = (omega arith, omega arith)
 head_small (WarmPool n) = (omega arith, omega arith)
 head_small (Abandon n) = (omega arith, omega arith)
@@ -78,7 +78,7 @@ frame_bytes_lem e now =
 
 -- a line of 24 bytes
 pub line_good : (bs : List ℕ) → Bytes bs → length bs ≡ 24 → bytes_of (line_of bs) ≡ some bs
-unfolding bytes_of line_of if◌then◌else◌
+unfolding bytes_of line_of when◌then◌else◌
 line_good bs h n =
     let l : length (hex_of bs) ≡ 48 = length_hex_of bs ∙ omega arith in
     let m : length (hex_of bs ++ 10 ∷ []) ≡ 49 = length-append (hex_of bs) (10 ∷ []) ∙ omega arith in
@@ -101,8 +101,8 @@ pub record Line (l bs : List ℕ) : Type 0 where
   pub count : length bs ≡ 24
   pub same : l ≡ line_of bs
 
-if_some : {A : Type 0} {b : Bool} {p q : Option A} {x : A} {R : Type 0} → (if b then p else q) ≡ some x → (b ≡ true → p ≡ some x → R) → (b ≡ false → q ≡ some x → R) → R
-unfolding if◌then◌else◌
+if_some : {A : Type 0} {b : Bool} {p q : Option A} {x : A} {R : Type 0} → (when b then p else q) ≡ some x → (b ≡ true → p ≡ some x → R) → (b ≡ false → q ≡ some x → R) → R
+unfolding when◌then◌else◌
 if_some {b = true} e f g = f refl e
 if_some {b = false} e f g = g refl e
 
@@ -136,8 +136,8 @@ pub record Carries (k f i n t : ℕ) (e : Event) (now : ℕ) : Type 0 where
   pub time : n ≡ now
   pub second : t ≡ (parts_of e).second
 
-if_good : {b : Bool} {p q : Frame} {e : Event} {now : ℕ} {R : Type 0} → (if b then p else q) ≡ Good e now → (b ≡ true → p ≡ Good e now → R) → (b ≡ false → q ≡ Good e now → R) → R
-unfolding if◌then◌else◌
+if_good : {b : Bool} {p q : Frame} {e : Event} {now : ℕ} {R : Type 0} → (when b then p else q) ≡ Good e now → (b ≡ true → p ≡ Good e now → R) → (b ≡ false → q ≡ Good e now → R) → R
+unfolding when◌then◌else◌
 if_good {b = true} e f g = f refl e
 if_good {b = false} e f g = g refl e
 
@@ -155,7 +155,7 @@ bare_good : (f i t : ℕ) (p : Frame) {e : Event} {now : ℕ} {R : Type 0} → b
 bare_good f i t p q k = need_good q (λ a q₁. plain_good f t p q₁ (λ x y z. k x (eqb-true i 0 a) y z))
 
 check_in_good : (f i n t : ℕ) (e : Event) (now : ℕ) → check_in_frame f i n t ≡ Good e now → Carries 4 f i n t e now
-unfolding if◌then◌else◌
+unfolding when◌then◌else◌
 check_in_good f i n t e now q =
     if_good q (λ a r. made r (record { kind = refl; flags = eqb-true f 0 a; id = refl; time = refl; second = refl })) (λ _ q₁.
     if_good q₁ (λ a r. made r (record { kind = refl; flags = eqb-true f 1 a; id = refl; time = refl; second = refl })) (λ _ q₂.
@@ -163,7 +163,7 @@ check_in_good f i n t e now q =
     need_good q₃ (λ a r. made r (record { kind = refl; flags = eqb-true f 3 a; id = refl; time = refl; second = refl })))))
 
 clear_good : (f i n t : ℕ) (e : Event) (now : ℕ) → clear_frame f i n t ≡ Good e now → Carries 5 f i n t e now
-unfolding if◌then◌else◌
+unfolding when◌then◌else◌
 clear_good f i n t e now q =
     if_good q (λ a q₁. plain_good 0 t _ q₁ (λ _ y r. made r (record { kind = refl; flags = eqb-true f 0 a; id = refl; time = refl; second = y }))) (λ _ q₁.
     need_good q₁ (λ a q₂. plain_good 0 t _ q₂ (λ _ y r. made r (record { kind = refl; flags = eqb-true f 1 a; id = refl; time = refl; second = y }))))
@@ -181,7 +181,7 @@ module _ {k f i n t : ℕ} (m : ℕ) (a : k =? m ≡ true) (e : Event) (now : �
       bare_good f i t _ q (λ x y z s. made s (record { kind = eqb-true k m a ∙ sym ek; flags = x ∙ sym ef; id = y ∙ sym ei; time = refl; second = z ∙ sym es }))
 
 pub fields_read : (k f i n t : ℕ) (e : Event) (now : ℕ) → frame_of_fields k f i n t ≡ Good e now → Carries k f i n t e now
-unfolding frame_of_fields if◌then◌else◌
+unfolding frame_of_fields when◌then◌else◌
 fields_read k f i n t e now q =
     if_good q (λ a r. with_id_lem 1 a e now CheckOut refl refl refl refl r) (λ _ q1.
     if_good q1 (λ a r. with_id_lem 2 a e now WarmPool refl refl refl refl r) (λ _ q2.
@@ -249,7 +249,7 @@ pub record Storable (o : Options) : Type 0 where
   pub idle : o.idle < 18446744073709551616
 
 options_good : (o : Options) → Storable o → options_of (options_bytes o) ≡ some o
-unfolding options_of options_bytes at4 at8 if◌then◌else◌
+unfolding options_of options_bytes at4 at8 when◌then◌else◌
 options_good o s = rw (at4_be4 o.maximum s.maximum, at4_be4 o.minimum s.minimum, at4_be4 o.connecting s.connecting, at8_be8 o.idle s.idle)
 
 pub options_bytes_lem : (o : Options) → Bytes (options_bytes o)

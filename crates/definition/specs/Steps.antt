@@ -1,10 +1,10 @@
 -- What each event does to a pool, and the service stage that follows it.
-use Rattle.std.specs.Prelude.{Bool, true, false, not, ◌&&◌, ◌||◌, List, [], ◌∷◌, ◌++◌, map, reverse, ℕ, zero, suc, ◌+◌, ◌-◌, min, length}
-use Rattle.definition.specs.Words.{if◌then◌else◌, ◌<?◌, ◌≤?◌, ◌=?◌, ◌∷ʳ◌, some?}
+use Rattle.std.specs.Prelude.{Bool, true, false, ◌&&◌, ◌||◌, List, [], ◌∷◌, ◌++◌, map, reverse, ℕ, zero, suc, ◌+◌, ◌-◌, min, length}
+use Rattle.definition.specs.Words.{when◌then◌else◌, ◌<?◌, ◌≤?◌, ◌=?◌, ◌∷ʳ◌, some?}
 use Rattle.definition.specs.Pool.{Pool, Conn, Waiter, is_ready, is_closed, total, stale, idle, perished, age_told, find, without, new_conn, with_state, set_state, with_status, with_next_id, with_last_request, with_available, with_lent, with_pending, with_waiting}
 use Rattle.definition.specs.Records.{Record, ConnectionCreated, ConnectionReady, ConnectionCheckedIn, ConnectionClosed, PoolReady, PoolCleared, PoolShut, Interrupt, Replied, Reply, Pooled, Establishing, Warmed, Cleared, Gone, told}
 use Rattle.definition.specs.Events.{parts_of}
-use Rattle.definition.specs.Types.{Event, CheckOut, WarmPool, Abandon, CheckIn, Clear, MarkAsReady, Succeeded, SucceededForPool, Failed, Maintenance, FillPool, Pin, ReturnToPinner, TakeFromPinner, Close, PoolState, New, Paused, Ready, Closed, InUse, Returned, Purpose, Request, Background, ConnectionState, CheckedIn, CheckedOut, Pinned, Pending, ClosedReason, Idle, Stale, Error, Dropped, PoolClosed}
+use Rattle.definition.specs.Types.{Event, CheckOut, WarmPool, Abandon, CheckIn, Clear, MarkAsReady, Succeeded, SucceededForPool, Failed, Maintenance, FillPool, Pin, ReturnToPinner, TakeFromPinner, Close, PoolState, New, Paused, Ready, Closed, InUse, Returned, Purpose, Request, Background, ConnectionState, CheckedIn, CheckedOut, Pinned, ClosedReason, Idle, Stale, Error, Dropped, PoolClosed}
 
 -- ── Acts: a pool gives a new pool and records, and one act follows another ─────────────────────────────────────────────
 
@@ -70,7 +70,7 @@ create_many (suc n) p = (create_pending_connection Background >> create_many n) 
 
 -- an available connection that has perished is closed as stale, else as idle, and then its age is told
 unfoldable pub close_perished : Conn → Act Pool
-close_perished c p = close (if stale p c then Stale else Idle) c.id (age_told (stale p c) (idle p c)) p
+close_perished c p = close (when stale p c then Stale else Idle) c.id (age_told (stale p c) (idle p c)) p
 
 -- every waiter, front to back
 unfoldable pub tell_all : Reply → Act Pool
@@ -104,11 +104,11 @@ check_in n errored executing let_go p =
     let c = find n p.lent in
     (do
       leave_lent n
-      if is_closed p.state then close PoolClosed n 0 else do
+      when is_closed p.state then close PoolClosed n 0 else do
         emit (ConnectionCheckedIn n)
-        if errored then close Error n 0 else
-            if stale p c then close Stale n 0 else
-            if executing then close Dropped n 0 else
+        when errored then close Error n 0 else
+            when stale p c then close Stale n 0 else
+            when executing then close Dropped n 0 else
             shelve c let_go
     ) p
 
@@ -118,14 +118,14 @@ unfoldable pub clear : (timeout : Bool) → (cause : ℕ) → Act Pool
 clear timeout cause p =
     let generation = p.generation + 1 in
     (do
-      if timeout then emit (Interrupt (length p.lent)) else nothing
-      if is_ready p.state then emit (PoolCleared timeout cause generation) >> tell_all (Cleared cause) else nothing
+      when timeout then emit (Interrupt (length p.lent)) else nothing
+      when is_ready p.state then emit (PoolCleared timeout cause generation) >> tell_all (Cleared cause) else nothing
       enter (Paused cause) generation
     ) p
 
 -- the pool says that it is ready, unless it was
 unfoldable pub mark_as_ready : Act Pool
-mark_as_ready p = (if is_ready p.state then nothing else (emit PoolReady >> enter Ready p.generation)) p
+mark_as_ready p = (when is_ready p.state then nothing else (emit PoolReady >> enter Ready p.generation)) p
 
 -- one that was made for a request is ready, and with that lent
 unfoldable pub succeeded : ℕ → Act Pool
@@ -137,7 +137,7 @@ succeeded_for_pool n opened p =
     (do
       emit (ConnectionReady n)
       leave_pending n
-      if is_closed p.state then close PoolClosed n 0 else shelve (find n p.pending) opened
+      when is_closed p.state then close PoolClosed n 0 else shelve (find n p.pending) opened
     ) p
 
 -- one that could not be made is closed as an error
@@ -148,12 +148,12 @@ failed n = leave_pending n >> close Error n 0
 unfoldable pub remove_perished : (available : List Conn) → Act Pool
 remove_perished [] p = nothing p
 remove_perished (c ∷ cs) p =
-    (if perished p c then (become (with_available p cs) >> close_perished c >> remove_perished cs) else nothing) p
+    (when perished p c then (become (with_available p cs) >> close_perished c >> remove_perished cs) else nothing) p
 
 -- and a Ready pool is filled up to its minimum, in background, as far as it may have more pending.
 unfoldable pub ensure_min_connections : Act Pool
 ensure_min_connections p =
-    (if is_ready p.state
+    (when is_ready p.state
     then create_many (min (p.options.minimum - total p) (p.options.connecting - length p.pending))
     else nothing
     ) p
@@ -208,7 +208,7 @@ establish w p = (create_pending_connection Request >> emit (told (Establishing p
 
 -- one from the pool is the answer; nobody takes what an abandoned waiter was given, so it is available again, since now
 unfoldable pub lend : Waiter → Conn → Act Pool
-lend w c p = (emit (told (Pooled c.id) w) >> (if w.abandoned then shelve c p.clock else lend_out c)) p
+lend w c p = (emit (told (Pooled c.id) w) >> (when w.abandoned then shelve c p.clock else lend_out c)) p
 
 -- A plain request gets the one that became available last and has not perished; those met before it are closed. Where all have
 -- perished one is made.
@@ -217,14 +217,14 @@ take_available w [] p = establish w p
 take_available w (c ∷ cs) p =
     (do
       become (with_available p (reverse cs))
-      if perished p c then close_perished c >> take_available w cs else lend w c
+      when perished p c then close_perished c >> take_available w cs else lend w c
     ) p
 
 -- a warming request has nothing to do once the minimum is there
 unfoldable pub check_out : Waiter → Act Pool
 check_out w p =
-    (if w.warm
-    then (if p.options.minimum ≤? total p then emit (told Warmed w) else establish w)
+    (when w.warm
+    then (when p.options.minimum ≤? total p then emit (told Warmed w) else establish w)
     else take_available w (reverse p.available)
     ) p
 
@@ -235,7 +235,7 @@ serve_front (w ∷ ws) p = (become (with_waiting p ws) >> check_out w) p
 
 -- once
 unfoldable pub service : Act Pool
-service p = (if can_service p then serve_front p.waiting else nothing) p
+service p = (when can_service p then serve_front p.waiting else nothing) p
 
 -- ── One event ──────────────────────────────────────────────────────────────────────────────────────────────────────────
 
@@ -251,4 +251,4 @@ abbrev pub serviced : Event → Bool
 serviced e = 1 to 2 holds kind_no e || 4 to 11 holds kind_no e
 
 unfoldable pub event : Event → Act Pool
-event e = handle e >> (if serviced e then service else nothing)
+event e = handle e >> (when serviced e then service else nothing)

@@ -1,7 +1,7 @@
 -- A day written from its options and events, the other way round of reading it.
-use Rattle.std.specs.Prelude.{Bool, true, false, List, [], ◌∷◌, ◌++◌, ℕ, zero, suc, ◌+◌, ◌*◌, ◌/◌, ◌%◌, length, take, drop}
+use Rattle.std.specs.Prelude.{List, [], ◌∷◌, ◌++◌, ℕ, zero, suc, ◌+◌, ◌*◌, ◌/◌, ◌%◌, length, take, drop}
 use Rattle.std.proofs.Math.Option.{Option, none, some}
-use Rattle.definition.specs.Words.{if◌then◌else◌, ◌<?◌, ◌=?◌, any?}
+use Rattle.definition.specs.Words.{when◌then◌else◌, ◌<?◌, ◌=?◌, any?}
 use Rattle.definition.specs.Refusals.{Test, ◌if◌, first, malformed}
 use Rattle.definition.specs.Bytes.{frame_length, day_line_length, frame_bytes, frame_of, options_bytes, line_of}
 use Rattle.definition.specs.Types.{Options, Frame, Good, Bad, Refusal, OutputShort, Malformed}
@@ -28,7 +28,7 @@ day_text o fs = options_line o ++ event_lines fs
 
 -- how many frames so many bytes are; a last piece that is too short counts
 unfoldable pub frames_count : ℕ → ℕ
-frames_count n = n / frame_length + (if n % frame_length =? 0 then 0 else 1)
+frames_count n = n / frame_length + (when n % frame_length =? 0 then 0 else 1)
 
 -- frames one behind the other; a last piece that is too short is one more, a bad one
 unfoldable pub frames_from : (count : ℕ) → List ℕ → List Frame

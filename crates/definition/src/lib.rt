@@ -1,5 +1,7 @@
 // What the definition and the code share: the numbers, and the types, which the definition in specs/ sees as they stand.
 
+#![tactic(auto)]
+
 // ── Numbers ──
 
 // The most connections that a pool may have, and the most requests that may wait. All numbers below follow from these two
@@ -46,7 +48,7 @@ pub const MOST_AGE: u32 = 4294967295;
 // ── Types ──
 
 // The fifteen kinds of event, in order of their numbers.
-#[derive(Drop)]
+#[derive(Clone, Copy)]
 pub enum Event {
     // request
     CheckOut(u32),
@@ -77,14 +79,14 @@ pub enum Event {
 }
 
 // What 24 bytes say: an event and its time, or nothing that is an event.
-#[derive(Drop)]
+#[derive(Clone, Copy)]
 pub enum Frame {
     Good(Event, u64),
     Bad,
 }
 
 // Of a pool: most connections, fewest, most pending at once, and the idle limit in milliseconds, 0 for never.
-#[derive(Drop)]
+#[derive(Clone, Copy)]
 pub struct Options {
     pub maximum: u32,
     pub minimum: u32,
@@ -92,7 +94,7 @@ pub struct Options {
     pub idle: u64,
 }
 
-#[derive(Drop)]
+#[derive(Clone, Copy)]
 pub enum PoolState {
     New,
     // cause
@@ -101,21 +103,21 @@ pub enum PoolState {
     Closed,
 }
 
-#[derive(Drop)]
+#[derive(Clone, Copy)]
 pub enum PinnedState {
     InUse,
     Returned,
 }
 
 // What a pending connection is established for.
-#[derive(Drop)]
+#[derive(Clone, Copy)]
 pub enum Purpose {
     Request,
     Background,
 }
 
 // A slot that holds no connection is Vacant.
-#[derive(Drop)]
+#[derive(Clone, Copy)]
 pub enum ConnectionState {
     Vacant,
     CheckedIn,
@@ -124,7 +126,7 @@ pub enum ConnectionState {
     Pending(Purpose),
 }
 
-#[derive(Drop)]
+#[derive(Clone, Copy)]
 pub enum ClosedReason {
     Idle,
     Stale,
@@ -134,7 +136,7 @@ pub enum ClosedReason {
 }
 
 // The twelve refusals, in order of their numbers.
-#[derive(Drop)]
+#[derive(Clone, Copy)]
 pub enum Refusal {
     OutputShort,
     Malformed,

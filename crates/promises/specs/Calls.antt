@@ -1,14 +1,13 @@
 -- What it means that a call was accepted: it passed every test, and the pool is what its event made of it.
-use Rattle.std.specs.Prelude.{◌≡◌, refl, Bool, true, false, not, ◌&&◌, List, ◌∷◌, ℕ}
-use Rattle.std.proofs.Common.{true≢false, arith}
-use Rattle.std.proofs.lemmas.Bool.{false≢true, not-false}
+use Rattle.std.specs.Prelude.{◌≡◌, refl, true, false, not, ◌&&◌, ℕ}
+use Rattle.std.proofs.Common.{true≢false}
+use Rattle.std.proofs.lemmas.Bool.{not-false}
 use Rattle.std.proofs.Math.Option.{Option, none, some}
 use Rattle.definition.specs.Booleans.{and_left}
 use Rattle.definition.specs.Laws.{not_first}
-use Rattle.definition.specs.Words.{if◌then◌else◌}
 use Rattle.definition.specs.Pool.{Pool, is_closed, has, with_clock}
 use Rattle.definition.specs.Steps.{event}
-use Rattle.definition.specs.Refusals.{Test, ◌if◌, first, tests, kind_tests, causeless, taken_after_close, step, outcome, verdict, counted, Result, Refused, Accepted}
+use Rattle.definition.specs.Refusals.{first, tests, kind_tests, causeless, taken_after_close, step, outcome, verdict, counted, Result, Refused, Accepted}
 use Rattle.definition.specs.declared.Event.{Event}
 use Rattle.definition.specs.declared.Event.TheVariants.{CheckOut, WarmPool, Abandon, CheckIn, Clear, MarkAsReady, Succeeded, SucceededForPool, Failed, Maintenance, FillPool, Pin, ReturnToPinner, TakeFromPinner, Close}
 use Rattle.definition.specs.declared.Frame.{Frame}

@@ -3,7 +3,7 @@ use Rattle.std.specs.Prelude.{◌≡◌, refl, Bool, true, false, List, [], ◌�
 use Rattle.std.proofs.Common.{ap, sym, append_assoc, arith}
 use Rattle.std.proofs.lemmas.List.{map-append}
 use Rattle.definition.specs.Laws.{find_id}
-use Rattle.definition.specs.Words.{if◌then◌else◌}
+use Rattle.definition.specs.Words.{when◌then◌else◌}
 use Rattle.definition.specs.Pool.{Pool, Conn, Waiter, has, find, with_clock, with_available, fresh}
 use Rattle.definition.specs.Records.{Record, Reply, told}
 use Rattle.definition.specs.Steps.{closed_with_pool, Out, Act, ◌>>◌, close, emit_all, become, leave_lent, leave_pending, shelve, lend_out, create_pending_connection, create_many, close_perished, tell_all, enter, queue, request, abandon, check_in, clear, mark_as_ready, succeeded, succeeded_for_pool, failed, remove_perished, ensure_min_connections, maintenance, repin, shut, handle, establish, lend, take_available, check_out, serve_front, service, event}
@@ -17,7 +17,6 @@ use Rattle.definition.specs.declared.PoolState.TheVariants.{New, Paused, Ready, 
 use Rattle.definition.specs.declared.Purpose.{Purpose}
 use Rattle.definition.specs.declared.ConnectionState.{ConnectionState}
 use Rattle.definition.specs.declared.ClosedReason.{ClosedReason}
-use Rattle.definition.specs.declared.ClosedReason.TheVariants.{PoolClosed}
 use Rattle.definition.specs.Log.{created, closed, numbers, sum_of}
 use Rattle.promises.specs.Runs.{next}
 use Rattle.promises.specs.Calls.{Passed, Named, Stepped, no_step, a_step, stepped, passed_named}
@@ -43,8 +42,8 @@ unfolding ◌>>◌
 moves_then a b p f g = record { even = λ w. simp (created_append, closed_append, sum_append) (omega (arith, f.even w, g.even w)) }
 
 moves_if : {x y : List ℕ} {b : Bool} (a₁ a₂ : Act Pool) (p : Pool) → (b ≡ true → Moves x y p (a₁ p)) → (b ≡ false → Moves x y p (a₂ p))
-    → Moves x y p ((if b then a₁ else a₂) p)
-unfolding if◌then◌else◌
+    → Moves x y p ((when b then a₁ else a₂) p)
+unfolding when◌then◌else◌
 moves_if {b = true} a₁ a₂ p f g = f refl
 moves_if {b = false} a₁ a₂ p f g = g refl
 

@@ -5,11 +5,12 @@ use Rattle.std.proofs.Common.{sym, ◌∙◌, true≢false}
 use Rattle.std.proofs.lemmas.Bool.{false≢true, not-true}
 use mathlib.Core.List.{List, [], ◌∷◌, ◌++◌, reverse, reverse-cons, append-nil}
 use Rattle.definition.specs.Booleans.{and_left, and_right}
-use Rattle.definition.specs.Words.{if◌then◌else◌, any?, ◌∷ʳ◌}
+use Rattle.definition.specs.Words.{when◌then◌else◌, any?, ◌∷ʳ◌}
 use Rattle.definition.specs.Pool.{Pool, Conn, Waiter, perished, with_state, with_waiting}
 use Rattle.definition.specs.Steps.{Out, Act, ◌>>◌, can_service, check_out, serve_front, service}
 use Rattle.definition.specs.declared.ConnectionState.TheVariants.{CheckedIn}
-use Rattle.definition.specs.Sentences.{if_both, All, FrontFails, found, others, Took, takes}
+use Rattle.definition.specs.Sentences.{All, FrontFails, found, others, Took}
+use Rattle.definition.proofs.Sentences.{if_both, takes}
 use Rattle.promises.specs.Runs.{front_abandoned, gives_back}
 
 pub record GaveBack (q : Pool) (o : Out Pool) : Type 0 where
@@ -28,13 +29,13 @@ module _ (t : Conn → Bool) where
   all_reverse (c ∷ l) h = let r = all_append (reverse l) (c ∷ []) (rw reverse-cons at h) in (r.1.0, all_reverse l r.0)
 
   none_fails : (l : List Conn) → All t l → any? (λ c. not (t c)) l ≡ false
-  unfolding if◌then◌else◌
+  unfolding when◌then◌else◌
   none_fails [] a = refl
   none_fails (c ∷ l) a = rw a.0 (none_fails l a.1)
 
 -- where one of them is healthy, one is found
 took_gives_back : (w : Waiter) (q : Pool) (l : List Conn) (o : Out Pool) → Took w q (reverse l) o → w.abandoned ≡ true → any? (λ c. not (perished q c)) l ≡ true → GaveBack q o
-unfolding if◌then◌else◌
+unfolding when◌then◌else◌
 took_gives_back w q l o k a h = go k.left k.parts k.stops (k.available_after ∙ rw a)
   where
     go : (left : List Conn) → reverse l ≡ k.gone ++ left → FrontFails (perished q) left → o.pool.available ≡ reverse (others left) ++ found CheckedIn q.clock left → GaveBack q o

@@ -1,7 +1,7 @@
 -- New connections are numbered on from the last, so that no number is created twice.
 use Rattle.std.specs.Prelude.{◌≡◌, refl, Bool, true, false, List, [], ◌∷◌, ◌++◌, ◌⊎◌, ℕ, zero, suc, ◌+◌, ◌≤◌, ◌<◌, length}
 use Rattle.std.proofs.Common.{◌∙◌, inl, inr, length-append, arith, zero-add, add-zero, suc-add, add-suc, eqb-true, ne_eqb}
-use Rattle.definition.specs.Words.{if◌then◌else◌, ◌=?◌}
+use Rattle.definition.specs.Words.{when◌then◌else◌, ◌=?◌}
 use Rattle.definition.specs.Pool.{Pool, Conn, Waiter, with_clock}
 use Rattle.definition.specs.Records.{told}
 use Rattle.definition.specs.Steps.{Out, Act, ◌>>◌, leave_lent, leave_pending, shelve, lend_out, create_pending_connection, create_many, close_perished, tell_all, enter, queue, request, abandon, check_in, clear, mark_as_ready, succeeded, succeeded_for_pool, failed, remove_perished, ensure_min_connections, maintenance, repin, shut, handle, establish, lend, take_available, check_out, serve_front, service, event}
@@ -35,8 +35,8 @@ plain_then : (a b : Act Pool) (p : Pool) → Plain p (a p) → Plain (a p).pool 
 unfolding ◌>>◌
 plain_then a b p f g = record { none_made = rw (created_append, f.none_made, g.none_made); next_stays = g.next_stays ∙ f.next_stays }
 
-plain_if : {b : Bool} (a₁ a₂ : Act Pool) (p : Pool) → (b ≡ true → Plain p (a₁ p)) → (b ≡ false → Plain p (a₂ p)) → Plain p ((if b then a₁ else a₂) p)
-unfolding if◌then◌else◌
+plain_if : {b : Bool} (a₁ a₂ : Act Pool) (p : Pool) → (b ≡ true → Plain p (a₁ p)) → (b ≡ false → Plain p (a₂ p)) → Plain p ((when b then a₁ else a₂) p)
+unfolding when◌then◌else◌
 plain_if {b = true} a₁ a₂ p f g = f refl
 plain_if {b = false} a₁ a₂ p f g = g refl
 
@@ -91,8 +91,8 @@ numbers_then a b p f g = record {
 }
 
 numbers_if : {b : Bool} (a₁ a₂ : Act Pool) (p : Pool) → (b ≡ true → Numbers p (a₁ p)) → (b ≡ false → Numbers p (a₂ p))
-    → Numbers p ((if b then a₁ else a₂) p)
-unfolding if◌then◌else◌
+    → Numbers p ((when b then a₁ else a₂) p)
+unfolding when◌then◌else◌
 numbers_if {b = true} a₁ a₂ p f g = f refl
 numbers_if {b = false} a₁ a₂ p f g = g refl
 
@@ -166,16 +166,16 @@ until_service_numbers cs p e now =
 -- ── Once ───────────────────────────────────────────────────────────────────────────────────────────────────────────────
 
 count_none : (n a i : ℕ) → i < a → often i (count_from a n) ≡ 0
-unfolding sum_of if◌then◌else◌
+unfolding sum_of when◌then◌else◌
 count_none zero a i h = refl
 count_none (suc n) a i h = rw (ne_eqb a i (λ e. omega arith)) (omega (arith, count_none n (suc a) i (omega arith)))
 
 count_once : (n a i : ℕ) → often i (count_from a n) ≤ 1
-unfolding sum_of if◌then◌else◌
+unfolding sum_of when◌then◌else◌
 count_once zero a i = omega arith
 count_once (suc n) a i = go (a =? i) refl (count_once n (suc a) i)
   where
-    go : (b : Bool) → (a =? i) ≡ b → often i (count_from (suc a) n) ≤ 1 → (if b then 1 else 0) + often i (count_from (suc a) n) ≤ 1
+    go : (b : Bool) → (a =? i) ≡ b → often i (count_from (suc a) n) ≤ 1 → (when b then 1 else 0) + often i (count_from (suc a) n) ≤ 1
     go true e h = omega (arith, count_none n (suc a) i (omega (arith, eqb-true a i e)))
     go false e h = omega arith
 

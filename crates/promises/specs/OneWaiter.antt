@@ -1,14 +1,14 @@
 -- No event but a clear and a close takes more than one waiter from the queue: what its own stage does leaves all of them there.
 use Rattle.std.specs.Prelude.{◌≡◌, refl, Bool, true, false, List, [], ◌∷◌, ℕ, zero, suc, ◌+◌, ◌≤◌, length}
-use Rattle.std.proofs.Common.{ap, ◌∙◌, true≢false, arith, length-append}
+use Rattle.std.proofs.Common.{ap, true≢false, arith, length-append}
 use Rattle.std.proofs.Math.Option.{Option, none, some}
 use Rattle.std.proofs.lemmas.List.{length-map}
-use Rattle.definition.specs.Words.{if◌then◌else◌}
+use Rattle.definition.specs.Words.{when◌then◌else◌}
 use Rattle.definition.specs.Pool.{Pool, Conn, with_clock}
 use Rattle.definition.specs.Steps.{Out, Act, ◌>>◌, nothing, leave_lent, leave_pending, shelve, lend_out, create_pending_connection, create_many, close_perished, enter, queue, request, abandon, check_in, mark_as_ready, succeeded, succeeded_for_pool, failed, remove_perished, ensure_min_connections, maintenance, repin, handle, service, serviced, event}
 use Rattle.definition.specs.Refusals.{first, tests, outcome, verdict, after, step}
 use Rattle.definition.specs.Log.{answered}
-use Rattle.definition.specs.Sentences.{if_both, front_answered, service_once}
+use Rattle.definition.proofs.Sentences.{if_both, front_answered, service_once}
 use Rattle.definition.specs.declared.Event.{Event}
 use Rattle.definition.specs.declared.Event.TheVariants.{CheckOut, WarmPool, Abandon, CheckIn, Clear, MarkAsReady, Succeeded, SucceededForPool, Failed, Maintenance, FillPool, Pin, ReturnToPinner, TakeFromPinner, Close}
 use Rattle.definition.specs.declared.Frame.{Frame}
@@ -45,8 +45,8 @@ stay_then : (a b : Act Pool) (p : Pool) → Stay p (a p) → Stay (a p).pool (b 
 unfolding ◌>>◌
 stay_then a b p f g = record { stay = omega (arith, f.stay, g.stay) }
 
-stay_if : {b : Bool} (a₁ a₂ : Act Pool) (p : Pool) → (b ≡ true → Stay p (a₁ p)) → (b ≡ false → Stay p (a₂ p)) → Stay p ((if b then a₁ else a₂) p)
-unfolding if◌then◌else◌
+stay_if : {b : Bool} (a₁ a₂ : Act Pool) (p : Pool) → (b ≡ true → Stay p (a₁ p)) → (b ≡ false → Stay p (a₂ p)) → Stay p ((when b then a₁ else a₂) p)
+unfolding when◌then◌else◌
 stay_if {b = true} a₁ a₂ p f g = f refl
 stay_if {b = false} a₁ a₂ p f g = g refl
 
@@ -111,7 +111,7 @@ unfolding event ◌>>◌
 event_takes e now p h =
     let q = (handle e p).pool in
     let s = (handle_stay e now p h).stay in
-    let t : TakesOne q ((if serviced e then service else nothing) q) =
+    let t : TakesOne q ((when serviced e then service else nothing) q) =
     if_both (λ (a : Act Pool). TakesOne q (a q)) (λ _. service_takes q) (λ _. record { takes_one = omega arith }) in
     record { takes_one = omega (arith, s, t.takes_one) }
 

@@ -3,11 +3,11 @@ use Rattle.std.specs.Prelude.{◌≡◌, refl, Bool, true, false, ℕ, ◌+◌, 
 use Rattle.std.proofs.Common.{ap, arith, eqb-true}
 use Rattle.std.proofs.lemmas.Bool.{false≢true}
 use mathlib.Core.List.{List, [], ◌∷◌, ◌++◌, reverse, reverse-cons, map-append}
-use Rattle.definition.specs.Words.{if◌then◌else◌, ◌=?◌}
-use Rattle.definition.specs.Pool.{Conn, has, find, without, set_state}
+use Rattle.definition.specs.Words.{when◌then◌else◌, ◌=?◌}
+use Rattle.definition.specs.Pool.{Conn, has, without, set_state}
 use Rattle.definition.specs.declared.ConnectionState.{ConnectionState}
 use Rattle.definition.specs.Log.{numbers, sum_of}
-use Rattle.definition.specs.Sentences.{if_both}
+use Rattle.definition.proofs.Sentences.{if_both}
 
 pub sum_append : (w : ℕ → ℕ) (a b : List ℕ) → sum_of w (a ++ b) ≡ sum_of w a + sum_of w b
 unfolding sum_of
@@ -24,10 +24,10 @@ unfolding sum_of
 sum_reverse w [] = refl
 sum_reverse w (c ∷ l) = rw (reverse-cons, map-append, sum_append, sum_reverse w l) (omega arith)
 
-without_step : (w : ℕ → ℕ) (n : ℕ) (c : Conn) (l : List Conn) (b : Bool) → (c.id =? n) ≡ b → (if b then true else has n l) ≡ true
+without_step : (w : ℕ → ℕ) (n : ℕ) (c : Conn) (l : List Conn) (b : Bool) → (c.id =? n) ≡ b → (when b then true else has n l) ≡ true
     → (has n l ≡ true → sum_of w (numbers l) ≡ w n + sum_of w (numbers (without n l)))
-    → w c.id + sum_of w (numbers l) ≡ w n + sum_of w (numbers (if b then l else c ∷ without n l))
-unfolding sum_of if◌then◌else◌
+    → w c.id + sum_of w (numbers l) ≡ w n + sum_of w (numbers (when b then l else c ∷ without n l))
+unfolding sum_of when◌then◌else◌
 without_step w n c l true e h ih = rw (eqb-true c.id n e)
 without_step w n c l false e h ih = omega (arith, ih h)
 

@@ -1,33 +1,29 @@
 -- The maximum at creation. The Rust tests it where it makes a connection for a waiter, and puts the waiter back in front where there is
 -- no room; the definition has no such branch. With the test in its place the service stage is the same, in every pool that is reached
 -- or that a call accepts.
-use Rattle.std.specs.Prelude.{◌≡◌, refl, Bool, true, false, List, [], ◌∷◌, reverse, ◌+◌, ◌≤◌, ◌<◌, length}
-use Rattle.std.proofs.Common.{sym, arith, lt-ltb, leb-false}
-use Rattle.std.proofs.lemmas.List.{length-reverse}
-use Rattle.definition.specs.Words.{if◌then◌else◌, ◌<?◌, ◌≤?◌}
+use Rattle.std.specs.Prelude.{List, [], ◌∷◌, reverse}
+use Rattle.definition.specs.Words.{when◌then◌else◌, ◌<?◌, ◌≤?◌}
 use Rattle.definition.specs.Pool.{Pool, Conn, Waiter, total, perished, with_available, with_waiting}
 use Rattle.definition.specs.Records.{Warmed, told}
-use Rattle.definition.specs.Steps.{Act, ◌>>◌, nothing, emit, become, close_perished, can_service, establish, lend, take_available, check_out, serve_front, service}
-use Rattle.promises.specs.Bound.{room}
-use Rattle.promises.specs.Reached.{Reached}
+use Rattle.definition.specs.Steps.{Act, ◌>>◌, nothing, emit, become, close_perished, can_service, establish, lend}
 
 -- ── The stage with the test ────────────────────────────────────────────────────────────────────────────────────────────
 
 unfoldable pub establish_tested : Waiter → Act Pool
-establish_tested w p = (if total p <? p.options.maximum then establish w else become (with_waiting p (w ∷ p.waiting))) p
+establish_tested w p = (when total p <? p.options.maximum then establish w else become (with_waiting p (w ∷ p.waiting))) p
 
 unfoldable pub take_tested : Waiter → (backToFront : List Conn) → Act Pool
 take_tested w [] p = establish_tested w p
 take_tested w (c ∷ cs) p =
     (do
       become (with_available p (reverse cs))
-      if perished p c then close_perished c >> take_tested w cs else lend w c
+      when perished p c then close_perished c >> take_tested w cs else lend w c
     ) p
 
 unfoldable pub check_out_tested : Waiter → Act Pool
 check_out_tested w p =
-    (if w.warm
-    then (if p.options.minimum ≤? total p then emit (told Warmed w) else establish_tested w)
+    (when w.warm
+    then (when p.options.minimum ≤? total p then emit (told Warmed w) else establish_tested w)
     else take_tested w (reverse p.available)
     ) p
 
@@ -36,51 +32,4 @@ serve_tested [] p = nothing p
 serve_tested (w ∷ ws) p = (become (with_waiting p ws) >> check_out_tested w) p
 
 unfoldable pub service_tested : Act Pool
-service_tested p = (if can_service p then serve_tested p.waiting else nothing) p
-
--- ── It is the same ─────────────────────────────────────────────────────────────────────────────────────────────────────
-
-same_if : {b : Bool} (a₁ a₂ b₁ b₂ : Act Pool) (p : Pool) → (b ≡ true → a₁ p ≡ b₁ p) → (b ≡ false → a₂ p ≡ b₂ p) → (if b then a₁ else a₂) p ≡ (if b then b₁ else b₂) p
-unfolding if◌then◌else◌
-same_if {b = true} a₁ a₂ b₁ b₂ p f g = f refl
-same_if {b = false} a₁ a₂ b₁ b₂ p f g = g refl
-
-establish_same : (w : Waiter) (p : Pool) → total p < p.options.maximum → establish_tested w p ≡ establish w p
-unfolding establish_tested if◌then◌else◌
-establish_same w p h = rw (lt-ltb (total p) p.options.maximum h)
-
--- the pool is the same whoever is told of what was closed
-after_closing : (a b : Act Pool) (c : Conn) (p : Pool) → a p ≡ b p → (close_perished c >> a) p ≡ (close_perished c >> b) p
-unfolding close_perished ◌>>◌
-after_closing a b c p e = rw e
-
-take_same : (w : Waiter) (l : List Conn) (p : Pool) → length p.available ≡ length l → total p ≤ p.options.maximum
-    → total p < p.options.maximum + length l → take_tested w l p ≡ take_available w l p
-unfolding take_tested take_available ◌>>◌
-take_same w [] p e f h = establish_same w p (omega arith)
-take_same w (c ∷ cs) p e f h =
-    let n : length (reverse cs) ≡ length cs = length-reverse cs in
-    let q = with_available p (reverse cs) in
-    let rest = take_same w cs q n (omega arith) (omega arith) in
-    same_if (close_perished c >> take_tested w cs) (lend w c) (close_perished c >> take_available w cs) (lend w c) q
-    (λ _. after_closing (take_tested w cs) (take_available w cs) c q rest) (λ _. refl)
-
-check_out_same : (w : Waiter) (p : Pool) → p.options.minimum ≤ p.options.maximum → total p ≤ p.options.maximum
-    → total p < p.options.maximum + length p.available → check_out_tested w p ≡ check_out w p
-unfolding check_out_tested check_out
-check_out_same w p k f h =
-    same_if _ _ _ _ p
-    (λ _. same_if (emit (told Warmed w)) (establish_tested w) (emit (told Warmed w)) (establish w) p (λ _. refl) (λ b. establish_same w p (omega (arith, leb-false p.options.minimum (total p) b))))
-    (λ _. take_same w (reverse p.available) p (sym (length-reverse p.available)) f (rw length-reverse h))
-
-serve_same : (l : List Waiter) (p : Pool) → p.options.minimum ≤ p.options.maximum → total p ≤ p.options.maximum
-    → total p < p.options.maximum + length p.available → serve_tested l p ≡ serve_front l p
-unfolding serve_tested serve_front ◌>>◌
-serve_same [] p k f h = refl
-serve_same (w ∷ l) p k f h = check_out_same w (with_waiting p l) k f h
-
-pub maximum_tested : (p : Pool) → Reached p → service_tested p ≡ service p
-unfolding service_tested service
-maximum_tested p g =
-    same_if (serve_tested p.waiting) nothing (serve_front p.waiting) nothing p
-    (λ h. serve_same p.waiting p g.ordered g.fits (room p h g.fits)) (λ _. refl)
+service_tested p = (when can_service p then serve_tested p.waiting else nothing) p

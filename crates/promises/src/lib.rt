@@ -1,1 +1,3 @@
 // What is promised of every run of the definition: the statements and their proofs stand in specs/.
+
+#![tactic(auto)]

@@ -3,7 +3,7 @@ use Rattle.std.specs.Prelude.{◌≡◌, refl, Bool, true, false, List, ℕ, ◌
 use Rattle.std.proofs.Common.{ap, sym, ◌∙◌, arith}
 use Rattle.std.proofs.Math.Option.{Option, none, some}
 use Rattle.definition.specs.Booleans.{by_eq}
-use Rattle.definition.specs.Words.{if◌then◌else◌, ◌∷ʳ◌}
+use Rattle.definition.specs.Words.{when◌then◌else◌, ◌∷ʳ◌}
 use Rattle.definition.specs.Pool.{Conn, without, set_state, state_no}
 use Rattle.definition.specs.declared.ConnectionState.{ConnectionState}
 use Rattle.slots.specs.View.{Slot, vacant, with_state}
@@ -15,14 +15,14 @@ Class = ℕ → Bool
 
 unfoldable pub only : Class → Option Slot → Option Slot
 only t none = none
-only t (some s) = if t s.state then some s else none
+only t (some s) = when t s.state then some s else none
 
 pub only_out : (t : Class) (s : Slot) → t s.state ≡ false → only t (some s) ≡ none
-unfolding only if◌then◌else◌
+unfolding only when◌then◌else◌
 only_out t s h = rw h
 
 pub only_in : (t : Class) (s : Slot) → t s.state ≡ true → only t (some s) ≡ some s
-unfolding only if◌then◌else◌
+unfolding only when◌then◌else◌
 only_in t s h = rw h
 
 pub only_none : (t : Class) → only t none ≡ none

@@ -5,7 +5,7 @@ use Rattle.std.proofs.Common.{ap, subst, ◌∙◌, arith}
 use Rattle.std.proofs.Math.Bool.{true, false}
 use Rattle.std.proofs.lemmas.Bool.{false≢true}
 use Prim.Native.Nat.{ℕ, zero, suc, ◌+◌, ◌≤◌}
-use Rattle.definition.specs.Words.{if◌then◌else◌}
+use Rattle.definition.specs.Words.{when◌then◌else◌}
 use Rattle.definition.specs.Pool.{Waiter, is_ready, is_closed}
 use Rattle.definition.specs.Records.{Record}
 use Rattle.definition.specs.Steps.{Out, Act, nothing, emit, become, ◌>>◌}
@@ -40,8 +40,8 @@ module _ {s : Bool} where
   unfolding ◌>>◌
   leaves_then a b p f g = record { options = g.options ∙ f.options; serial = g.serial ∙ f.serial; more = omega (arith, f.more, g.more); next = omega (arith, f.next, g.next); state = λ h. g.state h ∙ f.state h }
 
-  pub leaves_if : {k : ℕ} (b : Bool) (x y : Act SlotPool) (p : SlotPool) → (b ≡ true → Leaves s k p (x p)) → (b ≡ false → Leaves s k p (y p)) → Leaves s k p ((if b then x else y) p)
-  unfolding if◌then◌else◌
+  pub leaves_if : {k : ℕ} (b : Bool) (x y : Act SlotPool) (p : SlotPool) → (b ≡ true → Leaves s k p (x p)) → (b ≡ false → Leaves s k p (y p)) → Leaves s k p ((when b then x else y) p)
+  unfolding when◌then◌else◌
   leaves_if true x y p f g = f refl
   leaves_if false x y p f g = g refl
 
@@ -303,5 +303,5 @@ closed_leaves e i p c h =
     leaves_then (S.handle e i) _ p own0 (leaves_if _ _ _ _ (λ _. idle_leaves _ still) (λ _. leaves_all 0 _))
 
 pub close_leaves : (i : ℕ) (p : SlotPool) → Leaves false 0 p (S.event Close i p)
-unfolding S.event S.handle if◌then◌else◌
+unfolding S.event S.handle when◌then◌else◌
 close_leaves i p = leaves_then (S.handle Close i) nothing p (shut_leaves p) (leaves_all 0 _)

@@ -10,10 +10,10 @@ use Rattle.slots.specs.View.{SlotPool}
 use Rattle.slots.specs.Call as C
 use Rattle.refinement.specs.Alike.{fresh_slots}
 use Rattle.refinement.specs.Stands.{Stands, Formed}
-use Rattle.refinement.specs.Call.{Refines, call_refines}
-use Rattle.refinement.specs.Formed.{Lent, ran, Runs, fresh_stands, fresh_formed, call_formed, ran_formed, run_refines}
-use Rattle.refinement.specs.Rules.{Rules, rules_formed, formed_rules}
-use Rattle.refinement.specs.RecordRoom.{FewIn, call_few}
+use Rattle.refinement.specs.Call.{Refines}
+use Rattle.refinement.specs.Formed.{Lent, ran, Runs}
+use Rattle.refinement.specs.Rules.{Rules}
+use Rattle.refinement.specs.RecordRoom.{FewIn}
 
 pub record Refinement : Type 0 where
   -- a pool that is made stands for the fresh one of the definition
@@ -32,16 +32,3 @@ pub record Refinement : Type 0 where
   pub formed_keeps : (p : SlotPool) → Formed p → Rules p
   -- an accepted call writes no more records than the room that it asks for has place for
   pub few : (p : SlotPool) (m : Pool) (l : List ℕ) (f : Frame) → Stands p m → FewIn (C.call p l f).outcome
-
-pub refinement : Refinement
-refinement = record {
-  made = fresh_stands;
-  call = call_refines;
-  run = run_refines;
-  formed_first = fresh_formed;
-  formed_call = call_formed;
-  formed_run = ran_formed;
-  rules_form = rules_formed;
-  formed_keeps = formed_rules;
-  few = call_few;
-}

@@ -9,7 +9,7 @@ use native.Mathlib.Omega.{arith}
 use Rattle.std.proofs.Math.ListN.{get_or-eq_default}
 use Rattle.std.proofs.Math.Seq.{set_out}
 use Rattle.definition.specs.Booleans.{by_eq, by_lt}
-use Rattle.definition.specs.Words.{if◌then◌else◌, ◌<?◌, ◌=?◌}
+use Rattle.definition.specs.Words.{when◌then◌else◌}
 use Rattle.definition.specs.Pool.{slot_count, Waiter, is_ready}
 use Rattle.definition.specs.Records.{Record, Reply, PoolCleared, Cleared}
 use Rattle.definition.specs.Steps.{Out, Act, nothing, emit, become, ◌>>◌}
@@ -112,15 +112,15 @@ pub record Sites (m : ℕ) (a b : Bool) (p : SlotPool) (o : Out SlotPool) : Type
 
 -- what comes before a pool is paused or closed leaves its generation alone
 interrupted_same : (timeout : Bool) (p : SlotPool) → (S.interrupted timeout p).pool ≡ p
-unfolding S.interrupted if◌then◌else◌
+unfolding S.interrupted when◌then◌else◌
 interrupted_same true p = refl
 interrupted_same false p = refl
 
 cleared_generation : (timeout : Bool) (cause : ℕ) (p : SlotPool) → (S.cleared_ready timeout cause p).pool.generation ≡ p.generation
-unfolding S.cleared_ready S.tell_all if◌then◌else◌ ◌>>◌
+unfolding S.cleared_ready S.tell_all when◌then◌else◌ ◌>>◌
 cleared_generation timeout cause p = go (is_ready p.state)
   where
-    go : (b : Bool) → ((if b then emit (PoolCleared timeout cause (p.generation + 1)) >> S.tell_all (Cleared cause) else nothing) p).pool.generation ≡ p.generation
+    go : (b : Bool) → ((when b then emit (PoolCleared timeout cause (p.generation + 1)) >> S.tell_all (Cleared cause) else nothing) p).pool.generation ≡ p.generation
     go true = refl
     go false = refl
 
@@ -141,8 +141,8 @@ module _ {m : ℕ} where
   unfolding ◌>>◌
   sites_then x y p f g = record { dates = λ h. g.dates (f.dates h); spares = λ h. g.spares (f.spares h) }
 
-  sites_if : {a b : Bool} (c : Bool) (x y : Act SlotPool) (p : SlotPool) → (c ≡ true → Sites m a b p (x p)) → (c ≡ false → Sites m a b p (y p)) → Sites m a b p ((if c then x else y) p)
-  unfolding if◌then◌else◌
+  sites_if : {a b : Bool} (c : Bool) (x y : Act SlotPool) (p : SlotPool) → (c ≡ true → Sites m a b p (x p)) → (c ≡ false → Sites m a b p (y p)) → Sites m a b p ((when c then x else y) p)
+  unfolding when◌then◌else◌
   sites_if true x y p f g = f refl
   sites_if false x y p f g = g refl
 
@@ -348,5 +348,5 @@ module _ {m : ℕ} where
       (λ _. sites_if _ _ _ p (λ _. sites_weak (sites_all p)) (λ _. sites_then S.dequeue _ p (dequeue_sites p) (check_out_sites _ _)))
       (λ _. sites_weak (sites_all p))
 
-  pub serviced_sites : (b : Bool) (p : SlotPool) → Sites m true false p ((if b then S.service else nothing) p)
+  pub serviced_sites : (b : Bool) (p : SlotPool) → Sites m true false p ((when b then S.service else nothing) p)
   serviced_sites b p = sites_if b S.service nothing p (λ _. service_sites p) (λ _. sites_weak (sites_all p))

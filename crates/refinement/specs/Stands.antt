@@ -1,5 +1,5 @@
 -- A pool on slots stands for a pool on lists: whoever asks either is told the same.
-use Rattle.std.specs.Prelude.{◌≡◌, List, ℕ, ◌+◌, ◌≤◌, ◌<◌, length, get_or, take}
+use Rattle.std.specs.Prelude.{◌≡◌, List, ℕ, ◌+◌, ◌≤◌, length, get_or, take}
 use Rattle.definition.specs.Pool.{Pool, Conn, slot_count}
 use Rattle.definition.specs.Refusals.{most_next_id}
 use Rattle.definition.specs.Steps.{Out}

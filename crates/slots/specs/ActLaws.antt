@@ -2,7 +2,7 @@
 use Rattle.std.specs.Prelude.{◌≡◌, refl, Bool, true, false, ◌||◌, List, [], ◌∷◌, ℕ, zero, suc, ◌+◌, ◌-◌, ◌≤◌, ◌<◌, min, length, get_or, set}
 use Rattle.std.proofs.Common.{sym, ap, ◌∙◌, arith}
 use Rattle.std.proofs.Math.ListN.{length-set}
-use Rattle.definition.specs.Words.{if◌then◌else◌, ◌<?◌, ◌=?◌}
+use Rattle.definition.specs.Words.{when◌then◌else◌, ◌<?◌, ◌=?◌}
 use Rattle.definition.specs.Pool.{slot_count, stale_in, idle_for, most_age}
 use Rattle.definition.specs.Steps.{◌>>◌}
 use Rattle.definition.specs.declared.ClosedReason.{ClosedReason}
@@ -18,8 +18,8 @@ use Rattle.slots.specs.declared.Head.{Head}
 
 -- ── Ids taken ──
 
-if_most : (b : Bool) (n : ℕ) → (if b then 0 else 1) + n ≤ n + 1
-unfolding if◌then◌else◌
+if_most : (b : Bool) (n : ℕ) → (when b then 0 else 1) + n ≤ n + 1
+unfolding when◌then◌else◌
 if_most true n = omega arith
 if_most false n = omega arith
 
@@ -48,15 +48,15 @@ zeroed_more (suc k) (x ∷ l) = ap (λ (r : List ℕ). 0 ∷ r) (zeroed_more k l
 
 -- ── An available connection is looked at ──
 
-stale_or_idle : (b c : Bool) (r : ℕ) → r ≡ (if b || c then (if b then 2 else 1) else 0) → (r ≡ 0 → ⊥)
-    → (b || c ≡ true) × ((if b then Stale else Idle) ≡ reason_of r) × (0 < r) × (r ≤ 5)
-unfolding if◌then◌else◌
+stale_or_idle : (b c : Bool) (r : ℕ) → r ≡ (when b || c then (when b then 2 else 1) else 0) → (r ≡ 0 → ⊥)
+    → (b || c ≡ true) × ((when b then Stale else Idle) ≡ reason_of r) × (0 < r) × (r ≤ 5)
+unfolding when◌then◌else◌
 stale_or_idle true c r e n = (refl, rw e, omega arith, omega arith)
 stale_or_idle false true r e n = (refl, rw e, omega arith, omega arith)
 stale_or_idle false false r e n = absurd (n e)
 
-healthy : (b c : Bool) → ◌≡◌ {A = ℕ} (if b || c then (if b then 2 else 1) else 0) 0 → b || c ≡ false
-unfolding if◌then◌else◌
+healthy : (b c : Bool) → ◌≡◌ {A = ℕ} (when b || c then (when b then 2 else 1) else 0) 0 → b || c ≡ false
+unfolding when◌then◌else◌
 healthy true c e = absurd (omega arith)
 healthy false true e = absurd (omega arith)
 healthy false false e = refl
@@ -78,12 +78,12 @@ module _ (h : Head) (ns ts ss : List ℕ) (w : length (slots_of ns ts ss) ≡ sl
 
   module _ {stale : Bool} (st : stale ≡ stale_in h.status.generation (get_or ns (slot_count + i) 0)) where
     pub examined_stale : stale ≡ true → Examines h (slots_of ns ts ss) (order_in ss) k i 2 0
-    unfolding if◌then◌else◌
+    unfolding when◌then◌else◌
     examined_stale y = examined (rw (sym st ∙ y)) (rw (sym st ∙ y))
 
     pub examined_current : stale ≡ false → {age : ℕ} → age ≡ idle_for h.options.idle (get_or ts i 0) h.clock
-        → {r : ℕ} → r ≡ (if 0 <? age then 1 else 0) → {told : ℕ} → told ≡ min age most_age → Examines h (slots_of ns ts ss) (order_in ss) k i r told
-    unfolding if◌then◌else◌
+        → {r : ℕ} → r ≡ (when 0 <? age then 1 else 0) → {told : ℕ} → told ≡ min age most_age → Examines h (slots_of ns ts ss) (order_in ss) k i r told
+    unfolding when◌then◌else◌
     examined_current n old f g = examined (rw (sym st ∙ n, ← old) f) (rw (sym st ∙ n, ← old) g)
 
 -- what follows from it
@@ -94,7 +94,7 @@ module _ (p : SlotPool) (i r : ℕ) (e : r ≡ perished_no_at p i) where
   pub is_perished : (r ≡ 0 → ⊥) → perished_at p i ≡ true
   is_perished n = (stale_or_idle (stale_at p i) (0 <? idle_at p i) r (e ∙ perished_no_lem p i) n).0
 
-  pub perished_reason : (r ≡ 0 → ⊥) → (if stale_at p i then Stale else Idle) ≡ reason_of r
+  pub perished_reason : (r ≡ 0 → ⊥) → (when stale_at p i then Stale else Idle) ≡ reason_of r
   perished_reason n = (stale_or_idle (stale_at p i) (0 <? idle_at p i) r (e ∙ perished_no_lem p i) n).1
 
   pub perished_number : (r ≡ 0 → ⊥) → (0 < r) × (r ≤ 5)

@@ -1,8 +1,8 @@
 -- One call on slots: the tests by lookup, and what the call leaves.
-use Rattle.std.specs.Prelude.{Bool, true, false, not, ◌&&◌, ◌||◌, List, [], ◌∷◌, ℕ, ◌+◌, ◌%◌, length, get_or}
+use Rattle.std.specs.Prelude.{Bool, not, ◌&&◌, ◌||◌, List, [], ◌∷◌, ℕ, ◌+◌, ◌%◌, length, get_or}
 use Rattle.std.proofs.Math.Option.{Option, none, some}
-use Rattle.definition.specs.Words.{if◌then◌else◌, ◌<?◌, ◌≤?◌, ◌=?◌}
-use Rattle.definition.specs.Pool.{slot_count, is_closed, queue_length}
+use Rattle.definition.specs.Words.{when◌then◌else◌, ◌<?◌, ◌≤?◌, ◌=?◌}
+use Rattle.definition.specs.Pool.{is_closed, queue_length}
 use Rattle.definition.specs.Steps.{Out, kind_no, ◌to◌holds◌}
 use Rattle.definition.specs.Bytes.{serial_of}
 use Rattle.definition.specs.Refusals.{Test, ◌if◌, first, causeless, taken_after_close, enough_room, last_next_id, last_generation, wrong_time}
@@ -120,5 +120,5 @@ step p l e now = judged p l e now (verdict p e now)
 
 -- any frame, any output
 unfoldable pub call : SlotPool → List ℕ → Frame → World
-call p l Bad = world p l (Refused (if length l <? enough_room then OutputShort else Malformed))
-call p l (Good e now) = if length l <? enough_room then world p l (Refused OutputShort) else step p l e now
+call p l Bad = world p l (Refused (when length l <? enough_room then OutputShort else Malformed))
+call p l (Good e now) = when length l <? enough_room then world p l (Refused OutputShort) else step p l e now

@@ -3,7 +3,7 @@ use Rattle.std.specs.Prelude.{◌≡◌, Bool, true, false, ◌||◌, ℕ, zero,
 use Rattle.std.proofs.Math.Path.{refl}
 use Rattle.std.proofs.Common.{sym, arith, leb-true, leb-false, lt-ltb, le-leb}
 use Rattle.std.proofs.lemmas.Bool.{lt-leb}
-use Rattle.definition.specs.Words.{if◌then◌else◌, ◌<?◌, ◌≤?◌}
+use Rattle.definition.specs.Words.{when◌then◌else◌, ◌<?◌, ◌≤?◌}
 use Rattle.definition.specs.Pool.{Waiter, idle_for}
 use Rattle.definition.specs.Records.{Pooled, Establishing, Warmed, Cleared, Gone, fields, fields_of, reply_fields, reason_no, told}
 use Rattle.definition.specs.declared.ClosedReason.TheVariants.{Idle, Stale, Error, Dropped, PoolClosed}
@@ -13,8 +13,8 @@ use Rattle.slots.specs.Codes.{reason_of, reply_of, IsReply, perished_no}
 -- ── The numbers are those of the records ──
 
 reason_cases : (r : ℕ) (b₁ b₂ b₃ b₄ : Bool) → r ≤? 1 ≡ b₁ → r ≤? 2 ≡ b₂ → r ≤? 3 ≡ b₃ → r ≤? 4 ≡ b₄ → 0 < r → r ≤ 5
-    → reason_no (if b₁ then Idle else if b₂ then Stale else if b₃ then Error else if b₄ then Dropped else PoolClosed) ≡ r
-unfolding if◌then◌else◌
+    → reason_no (when b₁ then Idle else when b₂ then Stale else when b₃ then Error else when b₄ then Dropped else PoolClosed) ≡ r
+unfolding when◌then◌else◌
 reason_cases r true b₂ b₃ b₄ t₁ t₂ t₃ t₄ z h = omega (arith, leb-true r 1 t₁)
 reason_cases r false true b₃ b₄ t₁ t₂ t₃ t₄ z h = omega (arith, leb-false r 1 t₁, leb-true r 2 t₂)
 reason_cases r false false true b₄ t₁ t₂ t₃ t₄ z h = omega (arith, leb-false r 2 t₂, leb-true r 3 t₃)
@@ -28,8 +28,8 @@ same_fields : {k k' o o' : ℕ} (id : ℕ) → k ≡ k' → o ≡ o' → fields 
 same_fields id e f = rw (e, f)
 
 reply_cases : (k o id : ℕ) (b₁ b₂ b₃ b₄ : Bool) → k ≤? 16 ≡ b₁ → k ≤? 17 ≡ b₂ → k ≤? 18 ≡ b₃ → k ≤? 19 ≡ b₄ → IsReply k o
-    → reply_fields id (if b₁ then Pooled o else if b₂ then Establishing o else if b₃ then Warmed else if b₄ then Cleared o else Gone) ≡ fields k 0 id o
-unfolding if◌then◌else◌
+    → reply_fields id (when b₁ then Pooled o else when b₂ then Establishing o else when b₃ then Warmed else when b₄ then Cleared o else Gone) ≡ fields k 0 id o
+unfolding when◌then◌else◌
 reply_cases k o id true b₂ b₃ b₄ t₁ t₂ t₃ t₄ h = same_fields id (omega (arith, leb-true k 16 t₁, h.kinds.0)) refl
 reply_cases k o id false true b₃ b₄ t₁ t₂ t₃ t₄ h = same_fields id (omega (arith, leb-false k 16 t₁, leb-true k 17 t₂)) refl
 reply_cases k o id false false true b₄ t₁ t₂ t₃ t₄ h =
@@ -43,21 +43,21 @@ reply_cases k o id false false false false t₁ t₂ t₃ t₄ h =
 -- a reply to a waiter that listens, and to one that was abandoned
 module _ (k o : ℕ) (h : IsReply k o) (w : Waiter) where
   pub told_heard : w.abandoned ≡ false → fields_of (told (reply_of k o) w) ≡ fields k 0 w.id o
-  unfolding told if◌then◌else◌
+  unfolding told when◌then◌else◌
   told_heard e = rw e (reply_cases k o w.id (k ≤? 16) (k ≤? 17) (k ≤? 18) (k ≤? 19) refl refl refl refl h)
 
   pub told_unheard : w.abandoned ≡ true → fields_of (told (reply_of k o) w) ≡ fields 21 0 w.id 0
-  unfolding told if◌then◌else◌
+  unfolding told when◌then◌else◌
   told_unheard e = rw e
 
 -- ── Idle ──
 
 pub idle_none : (limit since now : ℕ) → limit ≡ 0 → idle_for limit since now ≡ 0
-unfolding if◌then◌else◌
+unfolding when◌then◌else◌
 idle_none limit since now e = rw e
 
 pub idle_no : (limit since now : ℕ) → now - since < limit → idle_for limit since now ≡ 0
-unfolding if◌then◌else◌
+unfolding when◌then◌else◌
 idle_no zero since now h = absurd (omega arith)
 idle_no (suc l) since now h = rw (lt-ltb 0 (suc l) (omega arith), lt-leb (suc l) (now - since) h)
 
@@ -66,19 +66,19 @@ idle_early zero since now h = idle_none 0 since now refl
 idle_early (suc l) since now h = idle_no (suc l) since now (omega arith)
 
 pub idle_yes : (limit since now : ℕ) → (limit ≡ 0 → ⊥) → limit ≤ now - since → idle_for limit since now ≡ now - since
-unfolding if◌then◌else◌
+unfolding when◌then◌else◌
 idle_yes zero since now n h = absurd (n refl)
 idle_yes (suc l) since now n h = rw (lt-ltb 0 (suc l) (omega arith), le-leb (suc l) (now - since) h)
 
 -- ── Why a connection is closed ──
 
-stale_no : (b c : Bool) → ◌≡◌ {A = ℕ} (if b || c then (if b then 2 else 1) else 0) (if b then 2 else if c then 1 else 0)
-unfolding if◌then◌else◌
+stale_no : (b c : Bool) → ◌≡◌ {A = ℕ} (when b || c then (when b then 2 else 1) else 0) (when b then 2 else when c then 1 else 0)
+unfolding when◌then◌else◌
 stale_no true c = refl
 stale_no false true = refl
 stale_no false false = refl
 
 -- the number that `examine` gives: 0 where slot i is healthy, else that of the reason
 pub perished_no_lem : (p : SlotPool) (i : ℕ)
-    → perished_no p.generation p.options.idle p.clock (slot_at p i).generation (slot_at p i).time ≡ (if perished_at p i then (if stale_at p i then 2 else 1) else 0)
+    → perished_no p.generation p.options.idle p.clock (slot_at p i).generation (slot_at p i).time ≡ (when perished_at p i then (when stale_at p i then 2 else 1) else 0)
 perished_no_lem p i = sym (stale_no (stale_at p i) (0 <? idle_at p i))

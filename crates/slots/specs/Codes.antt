@@ -1,6 +1,6 @@
 -- The numbers that the code passes for reasons and replies.
 use Rattle.std.specs.Prelude.{◌≡◌, List, ℕ, ◌≤◌, get_or}
-use Rattle.definition.specs.Words.{if◌then◌else◌, ◌<?◌, ◌≤?◌}
+use Rattle.definition.specs.Words.{when◌then◌else◌, ◌<?◌, ◌≤?◌}
 use Rattle.definition.specs.Pool.{stale_in, idle_for, age_told}
 use Rattle.slots.specs.View.{Slot, vacant}
 use Rattle.slots.specs.declared.Head.{Head}
@@ -9,10 +9,10 @@ use Rattle.definition.specs.declared.ClosedReason.{ClosedReason}
 use Rattle.definition.specs.declared.ClosedReason.TheVariants.{Idle, Stale, Error, Dropped, PoolClosed}
 
 abbrev pub reason_of : ℕ → ClosedReason
-reason_of r = if r ≤? 1 then Idle else if r ≤? 2 then Stale else if r ≤? 3 then Error else if r ≤? 4 then Dropped else PoolClosed
+reason_of r = when r ≤? 1 then Idle else when r ≤? 2 then Stale else when r ≤? 3 then Error else when r ≤? 4 then Dropped else PoolClosed
 
 abbrev pub reply_of : (kind other : ℕ) → Reply
-reply_of kind other = if kind ≤? 16 then Pooled other else if kind ≤? 17 then Establishing other else if kind ≤? 18 then Warmed else if kind ≤? 19 then Cleared other else Gone
+reply_of kind other = when kind ≤? 16 then Pooled other else when kind ≤? 17 then Establishing other else when kind ≤? 18 then Warmed else when kind ≤? 19 then Cleared other else Gone
 
 -- a reply's kind and other: those of 18 and 20 are 0
 pub record IsReply (kind other : ℕ) : Type 0 where
@@ -22,7 +22,7 @@ pub record IsReply (kind other : ℕ) : Type 0 where
 module _ (generation limit now : ℕ) (made since : ℕ) where
   -- why an available connection is closed: 2 stale, else 1 idle, 0 not at all
   abbrev pub perished_no : ℕ
-  perished_no = if stale_in generation made then 2 else if 0 <? idle_for limit since now then 1 else 0
+  perished_no = when stale_in generation made then 2 else when 0 <? idle_for limit since now then 1 else 0
 
   -- and the age that is told then
   abbrev pub perished_age : ℕ

@@ -1,7 +1,7 @@
 -- What is known of the slot that is found for an id, and of the one that is found free: all that anybody above relies on.
 use Rattle.std.specs.Prelude.{◌≡◌, Bool, true, false, List, [], ◌∷◌, ℕ, zero, suc, ◌+◌, ◌≤◌, ◌<◌, length, get_or, set}
 use Rattle.std.proofs.Common.{inl, inr, eq-or-lt_of_le, arith, get_or-set_same}
-use Rattle.definition.specs.Words.{if◌then◌else◌, ◌=?◌}
+use Rattle.definition.specs.Words.{when◌then◌else◌, ◌=?◌}
 use Rattle.definition.specs.Pool.{slot_count}
 use Rattle.slots.specs.Columns.{column}
 use Rattle.slots.specs.Order.{place_by, place, slot_holding, vacant_slot}
@@ -33,8 +33,8 @@ module _ (numbers : List ℕ) where
   unfolding vacant_slot column
   vacant_in = place_front (λ v. v) 0 slot_count slot_count numbers (omega arith)
 
-place_if : (b : Bool) (n t x : ℕ) → (if b then 0 else 1) + t < suc n → (t < n → x < n) → (if b then 0 else suc x) < suc n
-unfolding if◌then◌else◌
+place_if : (b : Bool) (n t x : ℕ) → (when b then 0 else 1) + t < suc n → (t < n → x < n) → (when b then 0 else suc x) < suc n
+unfolding when◌then◌else◌
 place_if true n t x h f = omega arith
 place_if false n t x h f = omega (arith, f (omega arith))
 
@@ -59,12 +59,12 @@ vacant_freed ids e i low =
 
 -- the slot found free lies below a bound that fewer slots than it are taken
 place_low : (n : ℕ) (l : List ℕ) → place 0 n l ≤ taken l
-unfolding taken place_by if◌then◌else◌
+unfolding taken place_by when◌then◌else◌
 place_low zero l = omega arith
 place_low (suc n) [] = omega arith
 place_low (suc n) (x ∷ l) = go (x =? 0) (place_low n l)
   where
-    go : (b : Bool) → place 0 n l ≤ taken l → (if b then 0 else suc (place 0 n l)) ≤ (if b then 0 else 1) + taken l
+    go : (b : Bool) → place 0 n l ≤ taken l → (when b then 0 else suc (place 0 n l)) ≤ (when b then 0 else 1) + taken l
     go true h = omega arith
     go false h = omega arith
 

@@ -1,14 +1,14 @@
 -- What the functions below the entry points ask of the pool that they are lent; the refinement shows it of every formed pool.
 use Rattle.std.specs.Prelude.{◌≡◌, List, [], ◌∷◌, ℕ, ◌+◌, ◌≤◌, ◌<◌, get_or}
 use Rattle.definition.specs.Pool.{queue_length, slot_count}
-use Rattle.definition.specs.Words.{if◌then◌else◌, ◌=?◌}
+use Rattle.definition.specs.Words.{when◌then◌else◌, ◌=?◌}
 use Rattle.slots.specs.Order.{vacant_slot}
-use Rattle.slots.specs.View.{SlotPool, Whole}
+use Rattle.slots.specs.View.{SlotPool}
 
 -- how many ids are not 0
 unfoldable pub taken : List ℕ → ℕ
 taken [] = 0
-taken (x ∷ l) = (if x =? 0 then 0 else 1) + taken l
+taken (x ∷ l) = (when x =? 0 then 0 else 1) + taken l
 
 -- there is a vacant slot, and a number for what goes there
 pub record CanCreate (p : SlotPool) : Type 0 where

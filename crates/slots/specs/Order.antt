@@ -1,12 +1,12 @@
 -- Order lists: compact at the front of a column.
 use Rattle.std.specs.Prelude.{List, ◌∷◌, ◌++◌, ℕ, zero, suc, ◌-◌, ◌/◌, take, drop, get_or}
-use Rattle.definition.specs.Words.{if◌then◌else◌, ◌=?◌}
+use Rattle.definition.specs.Words.{when◌then◌else◌, ◌=?◌}
 use Rattle.definition.specs.Pool.{slot_count}
 
 -- of the first n, the first place that holds a number, read by f; n where there is none
 unfoldable pub place_by : (ℕ → ℕ) → ℕ → ℕ → List ℕ → ℕ
 place_by f x zero l = 0
-place_by f x (suc n) l = if f (get_or l 0 0) =? x then 0 else suc (place_by f x n (drop 1 l))
+place_by f x (suc n) l = when f (get_or l 0 0) =? x then 0 else suc (place_by f x n (drop 1 l))
 
 abbrev pub place : ℕ → ℕ → List ℕ → ℕ
 place = place_by (λ v. v)

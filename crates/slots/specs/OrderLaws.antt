@@ -5,7 +5,7 @@ use Rattle.std.proofs.Common.{ap, ◌∙◌, append_assoc, inl, inr, eq-or-lt_of
 use Rattle.std.proofs.Math.ListN.{length, length-append}
 use Rattle.std.proofs.Math.Seq.{take-nil, drop-nil}
 use Rattle.std.proofs.lemmas.Bool.{eqb-false}
-use Rattle.definition.specs.Words.{if◌then◌else◌, ◌=?◌}
+use Rattle.definition.specs.Words.{when◌then◌else◌, ◌=?◌}
 use Rattle.definition.specs.Records.{Fields}
 use Rattle.definition.specs.Bytes.{record_bytes}
 use Rattle.slots.specs.Order.{place_by, shifted}
@@ -33,8 +33,8 @@ one_less n = omega arith
 
 -- ── The search ─────────────────────────────────────────────────────────────────────────────────────────────────────────
 
-if_either : (P : ℕ → Type 0) (b : Bool) (s t : ℕ) → (b ≡ true → P s) → (b ≡ false → P t) → P (if b then s else t)
-unfolding if◌then◌else◌
+if_either : (P : ℕ → Type 0) (b : Bool) (s t : ℕ) → (b ≡ true → P s) → (b ≡ false → P t) → P (when b then s else t)
+unfolding when◌then◌else◌
 if_either P true s t f g = f refl
 if_either P false s t f g = g refl
 
@@ -100,7 +100,7 @@ unfolding place_by
 place_front f x zero m l h = refl
 place_front f x (suc n) zero l h = absurd (omega arith)
 place_front f x (suc n) (suc m) [] h = refl
-place_front f x (suc n) (suc m) (y ∷ l) h = ap (λ (r : ℕ). if f y =? x then 0 else suc r) (place_front f x n m l (omega arith))
+place_front f x (suc n) (suc m) (y ∷ l) h = ap (λ (r : ℕ). when f y =? x then 0 else suc r) (place_front f x n m l (omega arith))
 
 -- ── The shift ──────────────────────────────────────────────────────────────────────────────────────────────────────────
 

@@ -1,10 +1,10 @@
 -- What a change of the lent parts is to the pool that they make.
-use Rattle.std.specs.Prelude.{◌≡◌, refl, List, map, ℕ, ◌+◌, ◌≤◌, ◌<◌, length, set, replicate}
+use Rattle.std.specs.Prelude.{◌≡◌, List, map, ℕ, ◌+◌, ◌≤◌, ◌<◌, length, set, replicate}
 use Rattle.std.proofs.Math.Path.{sym, ap}
 use Rattle.std.proofs.Common.{◌∙◌, arith}
 use Rattle.std.proofs.Math.ListN.{get_or}
 use Rattle.definition.specs.Pool.{slot_count}
-use Rattle.slots.specs.Columns.{column, column_at, first_at, column_long, long_column, column_set, column_before, column_behind, column_blank, zip, zip_set, zip_set_second, zip_at, zip_long, zip_fits, zip_map, zip_replicate}
+use Rattle.slots.specs.Columns.{column_at, first_at, column_long, long_column, column_set, column_before, column_behind, column_blank, zip, zip_set, zip_set_second, zip_at, zip_long, zip_fits, zip_map, zip_replicate}
 use Rattle.slots.specs.View.{SlotPool, Slot, slot, vacant, with_state, with_table, with_available, id_at, slot_at, ids_in, generations_in, states_in, order_in, slot_in, slots_of, pool_of, Whole}
 use Rattle.slots.specs.declared.Head.{Head}
 

@@ -1,9 +1,9 @@
 -- The pool on fixed slots: each step, as the code takes it. The steps have the definition's names and shape; a connection is
 -- named by its slot, a waiter by its place.
-use Rattle.std.specs.Prelude.{◌≡◌, Bool, true, false, not, ◌&&◌, ◌||◌, List, [], ◌∷◌, ◌++◌, map, ℕ, zero, suc, ◌+◌, ◌-◌, ◌*◌, ◌/◌, ◌%◌, ◌≤◌, ◌<◌, length, get_or, set, take}
-use Rattle.definition.specs.Words.{if◌then◌else◌, ◌<?◌, ◌≤?◌, ◌=?◌}
-use Rattle.definition.specs.Pool.{slot_count, Waiter, is_ready, is_closed}
-use Rattle.definition.specs.Records.{Record, ConnectionCreated, ConnectionReady, ConnectionCheckedIn, ConnectionClosed, PoolReady, PoolCleared, PoolShut, Interrupt, Replied, Reply, Pooled, Establishing, Warmed, Cleared, Gone, told}
+use Rattle.std.specs.Prelude.{Bool, true, false, ◌&&◌, ◌||◌, List, [], ◌∷◌, map, ℕ, zero, suc, ◌+◌, ◌-◌, ◌*◌, get_or, set, take}
+use Rattle.definition.specs.Words.{when◌then◌else◌, ◌<?◌, ◌≤?◌, ◌=?◌}
+use Rattle.definition.specs.Pool.{Waiter, is_ready, is_closed}
+use Rattle.definition.specs.Records.{ConnectionCreated, ConnectionReady, ConnectionCheckedIn, ConnectionClosed, PoolReady, PoolCleared, PoolShut, Interrupt, Replied, Reply, Pooled, Establishing, Warmed, Cleared, Gone, told}
 use Rattle.definition.specs.Events.{bit}
 use Rattle.definition.specs.Steps.{Act, nothing, emit, emit_all, become, ◌>>◌, serviced}
 use Rattle.definition.specs.declared.Event.{Event}
@@ -72,7 +72,7 @@ create_pending_connection state p =
     ) p
 
 unfoldable pub close_perished_at : ℕ → Act SlotPool
-close_perished_at i p = close_at (if stale_at p i then Stale else Idle) i (age_told_at p i) p
+close_perished_at i p = close_at (when stale_at p i then Stale else Idle) i (age_told_at p i) p
 
 -- the first n cells are 0
 unfoldable pub zeroed : ℕ → List ℕ → List ℕ
@@ -105,11 +105,11 @@ abandon_at k p = become (with_waiters p (set p.waiters k (get_or p.waiters k 0 +
 
 unfoldable pub check_in_at : ℕ → (errored executing : Bool) → (let_go : ℕ) → Act SlotPool
 check_in_at i errored executing let_go p =
-    (if is_closed p.state then close_at PoolClosed i 0 else do
+    (when is_closed p.state then close_at PoolClosed i 0 else do
       emit (ConnectionCheckedIn (id_at p i))
-      if errored then close_at Error i 0 else
-          if stale_at p i then close_at Stale i 0 else
-          if executing then close_at Dropped i 0 else
+      when errored then close_at Error i 0 else
+          when stale_at p i then close_at Stale i 0 else
+          when executing then close_at Dropped i 0 else
           shelve i let_go
     ) p
 
@@ -118,17 +118,17 @@ abbrev pub lents : SlotPool → ℕ
 lents p = p.total - p.availables - p.pendings
 
 unfoldable pub interrupted : (timeout : Bool) → Act SlotPool
-interrupted timeout p = (if timeout then emit (Interrupt (lents p)) else nothing) p
+interrupted timeout p = (when timeout then emit (Interrupt (lents p)) else nothing) p
 
 unfoldable pub cleared_ready : (timeout : Bool) → (cause : ℕ) → Act SlotPool
 cleared_ready timeout cause p =
-    (if is_ready p.state then emit (PoolCleared timeout cause (p.generation + 1)) >> tell_all (Cleared cause) else nothing) p
+    (when is_ready p.state then emit (PoolCleared timeout cause (p.generation + 1)) >> tell_all (Cleared cause) else nothing) p
 
 unfoldable pub clear : (timeout : Bool) → (cause : ℕ) → Act SlotPool
 clear timeout cause p = (interrupted timeout >> cleared_ready timeout cause >> enter (Paused cause) (p.generation + 1)) p
 
 unfoldable pub mark_as_ready : Act SlotPool
-mark_as_ready p = (if is_ready p.state then nothing else (emit PoolReady >> enter Ready p.generation)) p
+mark_as_ready p = (when is_ready p.state then nothing else (emit PoolReady >> enter Ready p.generation)) p
 
 unfoldable pub succeeded_at : ℕ → Act SlotPool
 succeeded_at i p = (emit (ConnectionReady (id_at p i)) >> leave_pending >> set_state_at checked_out_no i) p
@@ -138,7 +138,7 @@ succeeded_for_pool_at i opened p =
     (do
       emit (ConnectionReady (id_at p i))
       leave_pending
-      if is_closed p.state then close_at PoolClosed i 0 else shelve i opened
+      when is_closed p.state then close_at PoolClosed i 0 else shelve i opened
     ) p
 
 unfoldable pub failed_at : ℕ → Act SlotPool
@@ -149,7 +149,7 @@ unfoldable pub prune : ℕ → Act SlotPool
 prune zero p = nothing p
 prune (suc k) p =
     let i = get_or p.available 0 0 in
-    (if perished_at p i then (pop_front >> close_perished_at i >> prune k) else nothing) p
+    (when perished_at p i then (pop_front >> close_perished_at i >> prune k) else nothing) p
 
 unfoldable pub remove_perished : Act SlotPool
 remove_perished p = prune p.availables p
@@ -158,10 +158,10 @@ remove_perished p = prune p.availables p
 unfoldable pub fill_up : ℕ → Act SlotPool
 fill_up zero p = nothing p
 fill_up (suc k) p =
-    (if p.total <? p.options.minimum && p.pendings <? p.options.connecting then create_pending_connection background_no >> fill_up k else nothing) p
+    (when p.total <? p.options.minimum && p.pendings <? p.options.connecting then create_pending_connection background_no >> fill_up k else nothing) p
 
 unfoldable pub ensure_min_connections : Act SlotPool
-ensure_min_connections p = (if is_ready p.state then fill_up p.options.minimum else nothing) p
+ensure_min_connections p = (when is_ready p.state then fill_up p.options.minimum else nothing) p
 
 unfoldable pub maintenance : Act SlotPool
 maintenance = remove_perished >> ensure_min_connections
@@ -211,7 +211,7 @@ unfoldable pub establish : Waiter → Act SlotPool
 establish w p = (create_pending_connection request_no >> emit (told (Establishing p.next_id) w)) p
 
 unfoldable pub lend : Waiter → ℕ → Act SlotPool
-lend w i p = (emit (told (Pooled (id_at p i)) w) >> (if w.abandoned then shelve i p.clock else set_state_at checked_out_no i)) p
+lend w i p = (emit (told (Pooled (id_at p i)) w) >> (when w.abandoned then shelve i p.clock else set_state_at checked_out_no i)) p
 
 -- of the first k available, from the back: closed if perished, until one is lent
 unfoldable pub take_from : ℕ → Waiter → Act SlotPool
@@ -220,13 +220,13 @@ take_from (suc k) w p =
     let i = get_or p.available k 0 in
     (do
       pop_back
-      if perished_at p i then close_perished_at i >> take_from k w else lend w i
+      when perished_at p i then close_perished_at i >> take_from k w else lend w i
     ) p
 
 unfoldable pub check_out : Waiter → Act SlotPool
 check_out w p =
-    (if w.warm
-    then (if p.options.minimum ≤? p.total then emit (told Warmed w) else establish w)
+    (when w.warm
+    then (when p.options.minimum ≤? p.total then emit (told Warmed w) else establish w)
     else take_from p.availables w
     ) p
 
@@ -237,7 +237,7 @@ unfoldable pub serve_front : Act SlotPool
 serve_front p = (dequeue >> check_out (waiter_of (get_or p.waiters 0 0))) p
 
 unfoldable pub service : Act SlotPool
-service p = (if can_service p then (if p.waitings =? 0 then nothing else serve_front) else nothing) p
+service p = (when can_service p then (when p.waitings =? 0 then nothing else serve_front) else nothing) p
 
 unfoldable pub event : Event → (at : ℕ) → Act SlotPool
-event e at = handle e at >> (if serviced e then service else nothing)
+event e at = handle e at >> (when serviced e then service else nothing)

@@ -1,9 +1,8 @@
 -- The cases of the steps.
-use Rattle.std.specs.Prelude.{◌≡◌, refl, Bool, true, false, ◌&&◌, ◌||◌, [], ℕ, ◌+◌, ◌*◌, ◌<◌, set}
+use Rattle.std.specs.Prelude.{◌≡◌, Bool, true, false, ◌&&◌, ◌||◌, ℕ, ◌+◌, ◌*◌, ◌<◌, set}
 use Rattle.std.proofs.Common.{subst, ltb-true}
-use Rattle.std.proofs.lemmas.Bool.{false≢true}
 use Rattle.definition.specs.Booleans.{and_left, and_right}
-use Rattle.definition.specs.Words.{if◌then◌else◌, ◌<?◌}
+use Rattle.definition.specs.Words.{when◌then◌else◌, ◌<?◌}
 use Rattle.definition.specs.Pool.{is_ready, is_closed}
 use Rattle.definition.specs.Records.{ConnectionCheckedIn, ConnectionReady, PoolReady, Replied, Cleared}
 use Rattle.definition.specs.Steps.{emit, nothing, ◌>>◌}
@@ -15,41 +14,41 @@ use Rattle.slots.specs.Slots.{close_at, shelve, leave_pending, enter, check_in_a
 
 module _ (p : SlotPool) (i : ℕ) (errored executing : Bool) (t : ℕ) where
   pub check_in_closed : is_closed p.state ≡ true → check_in_at i errored executing t p ≡ close_at PoolClosed i 0 p
-  unfolding check_in_at if◌then◌else◌
+  unfolding check_in_at when◌then◌else◌
   check_in_closed h = rw h
 
   pub check_in_errored : is_closed p.state ≡ false → errored ≡ true → check_in_at i errored executing t p ≡ (emit (ConnectionCheckedIn (id_at p i)) >> close_at Error i 0) p
-  unfolding check_in_at if◌then◌else◌
+  unfolding check_in_at when◌then◌else◌
   check_in_errored h e = rw (h, e)
 
   pub check_in_stale : is_closed p.state ≡ false → errored ≡ false → stale_at p i ≡ true → check_in_at i errored executing t p ≡ (emit (ConnectionCheckedIn (id_at p i)) >> close_at Stale i 0) p
-  unfolding check_in_at if◌then◌else◌
+  unfolding check_in_at when◌then◌else◌
   check_in_stale h e s = rw (h, e, s)
 
   pub check_in_executing : is_closed p.state ≡ false → errored ≡ false → stale_at p i ≡ false → executing ≡ true → check_in_at i errored executing t p ≡ (emit (ConnectionCheckedIn (id_at p i)) >> close_at Dropped i 0) p
-  unfolding check_in_at if◌then◌else◌
+  unfolding check_in_at when◌then◌else◌
   check_in_executing h e s x = rw (h, e, s, x)
 
   pub check_in_kept : is_closed p.state ≡ false → errored ≡ false → stale_at p i ≡ false → executing ≡ false → check_in_at i errored executing t p ≡ (emit (ConnectionCheckedIn (id_at p i)) >> shelve i t) p
-  unfolding check_in_at if◌then◌else◌
+  unfolding check_in_at when◌then◌else◌
   check_in_kept h e s x = rw (h, e, s, x)
 
 module _ (p : SlotPool) (i opened : ℕ) where
   pub opened_closed : is_closed p.state ≡ true → succeeded_for_pool_at i opened p ≡ (emit (ConnectionReady (id_at p i)) >> leave_pending >> close_at PoolClosed i 0) p
-  unfolding succeeded_for_pool_at if◌then◌else◌
+  unfolding succeeded_for_pool_at when◌then◌else◌
   opened_closed h = rw h
 
   pub opened_kept : is_closed p.state ≡ false → succeeded_for_pool_at i opened p ≡ (emit (ConnectionReady (id_at p i)) >> leave_pending >> shelve i opened) p
-  unfolding succeeded_for_pool_at if◌then◌else◌
+  unfolding succeeded_for_pool_at when◌then◌else◌
   opened_kept h = rw h
 
 module _ (p : SlotPool) where
   pub ready_already : is_ready p.state ≡ true → mark_as_ready p ≡ nothing p
-  unfolding mark_as_ready if◌then◌else◌
+  unfolding mark_as_ready when◌then◌else◌
   ready_already h = rw h
 
   pub ready_now : is_ready p.state ≡ false → mark_as_ready p ≡ (emit PoolReady >> enter Ready p.generation) p
-  unfolding mark_as_ready if◌then◌else◌
+  unfolding mark_as_ready when◌then◌else◌
   ready_now h = rw h
 
 module _ (p : SlotPool) (n : ℕ) (warm : Bool) where

@@ -1,7 +1,7 @@
 -- The pool that the lent parts make: what the slot-level steps speak of. Only this file and its laws, Parts, know the columns: a new
 -- field of a slot or of the pool is written here.
-use Rattle.std.specs.Prelude.{◌≡◌, Bool, ◌||◌, List, [], ◌∷◌, map, ℕ, ◌+◌, ◌*◌, ◌/◌, ◌%◌, ◌≤◌, ◌<◌, length, get_or, set}
-use Rattle.std.specs.Borrow.{Bor}
+use Rattle.std.specs.Prelude.{◌≡◌, Bool, ◌||◌, List, ℕ, ◌+◌, ◌*◌, ◌/◌, ◌%◌, length, get_or, set}
+use Rattle.std.specs.Borrow.{MutBor}
 use denote.Triple.Both.{Both}
 use Rattle.definition.specs.Words.{◌<?◌, ◌≤?◌, ◌=?◌}
 use Rattle.definition.specs.Pool.{queue_length, slot_count, Waiter, stale_in, idle_for, age_told}
@@ -158,10 +158,10 @@ waiter_of w = record { id = w / 4; warm = w % 2 =? 1; abandoned = 2 ≤? w % 4 }
 
 -- an array of numbers that is lent to a function
 abbrev pub Lent : Type 0
-Lent = Both (Bor (List ℕ)) (Bor (List ℕ))
+Lent = Both (MutBor (List ℕ)) (MutBor (List ℕ))
 
 -- the pool whose lent parts are these: in a `requires`; as a function is called; as it returns
-abbrev pub given : Head → Bor (List ℕ) → Bor (List ℕ) → Bor (List ℕ) → Bor (List ℕ) → SlotPool
+abbrev pub given : Head → MutBor (List ℕ) → MutBor (List ℕ) → MutBor (List ℕ) → MutBor (List ℕ) → SlotPool
 given h numbers times states waiters = pool_of h numbers.now times.now states.now waiters.now
 
 abbrev pub before : Head → Lent → Lent → Lent → Lent → SlotPool

@@ -1,7 +1,9 @@
 // The pool on fixed slots: what its head holds, and what is said of an event. The steps stand in specs/, as the code takes them.
+#![tactic(auto)]
+
 use definition::{Options, PoolState, QUEUE, Refusal, SLOTS};
 
-#[derive(Drop)]
+#[derive(Clone, Copy)]
 pub struct Status {
     pub state: PoolState,
     pub generation: u32,
@@ -32,7 +34,7 @@ pub type States = [u8; STATES];
 pub type Waiters = [u64; QUEUE];
 
 // What a pool holds beside its columns.
-#[derive(Drop)]
+#[derive(Clone, Copy)]
 pub struct Head {
     pub options: Options,
     pub status: Status,
@@ -47,14 +49,14 @@ pub struct Head {
 }
 
 // What the tests say of an event: a refusal, or the slot or the waiter that it names.
-#[derive(Drop)]
+#[derive(Clone, Copy)]
 pub enum Verdict {
     Refuse(Refusal),
     Accept(usize),
 }
 
 // The answer to a call: a refusal, or how many records were written.
-#[derive(Drop)]
+#[derive(Clone, Copy)]
 pub enum Outcome {
     Refused(Refusal),
     Accepted(u32),

@@ -1,11 +1,11 @@
 -- The promises kept: each is one theorem.
-use Rattle.std.specs.Prelude.{◌≡◌, refl, Bool, true, false, ◌&&◌, ◌⊎◌, ℕ, ◌+◌, ◌≤◌, ◌<◌, length}
-use Rattle.std.proofs.Common.{sym, ap, inl, inr, arith, length-append, leb-true, eqb-true, ne_eqb, eq-eqb}
+use Rattle.std.specs.Prelude.{◌≡◌, refl, Bool, true, false, ◌⊎◌, ℕ, ◌+◌, ◌≤◌, ◌<◌, length}
+use Rattle.std.proofs.Common.{sym, ap, inl, inr, arith, length-append, eqb-true, ne_eqb, eq-eqb}
 use mathlib.Core.List.Memᴰ
 use mathlib.Core.List.{List, [], ◌∷◌, ◌++◌, Memᴰ, append_assoc}
 use Rattle.std.proofs.lemmas.List.{length-map}
 use Rattle.definition.specs.Limits.{limits_of}
-use Rattle.definition.specs.Words.{if◌then◌else◌, ◌≤?◌, ◌=?◌}
+use Rattle.definition.specs.Words.{when◌then◌else◌, ◌=?◌}
 use Rattle.definition.specs.Pool.{Pool, fresh, slot_count, with_defaults, in_range, with_clock}
 use Rattle.definition.specs.Steps.{Out, ◌>>◌, handle}
 use Rattle.definition.specs.Refusals.{run, after, Call, Made, NotMade, make}
@@ -13,26 +13,26 @@ use Rattle.definition.specs.declared.Options.{Options}
 use Rattle.definition.specs.declared.Refusal.TheVariants.{OptionsOutOfRange}
 use Rattle.definition.specs.Log.{created, closed, answered, ids, often, sum_of, Rising}
 use Rattle.promises.specs.Promises.{Fresh, MadeFresh, Connections, HandsOutFree, Requests, InTime, Waits, LogInTime, InTimeBefore, FewClosed, FewRecords, Serials, Ages, pool_after, log_of, standing}
-use Rattle.definition.specs.Sentences.{pooled_was_available, answered_append}
+use Rattle.definition.proofs.Sentences.{pooled_was_available, answered_append}
 use Rattle.promises.specs.Runs.{result, next, puts, times}
 use Rattle.promises.specs.Calls.{stepped}
-use Rattle.promises.specs.Flow.{run_flow, run_calms, fresh_calm}
-use Rattle.promises.specs.Keeps.{run_rising, run_options, run_written}
-use Rattle.promises.specs.Progress.{in_time_from, in_time_before_from}
+use Rattle.promises.proofs.Flow.{run_flow, run_calms, fresh_calm}
+use Rattle.promises.proofs.Keeps.{run_rising, run_options, run_written}
+use Rattle.promises.proofs.Progress.{in_time_from, in_time_before_from}
 use Rattle.promises.specs.Conserve.{held, Moves, conserved, run_moves, until_service_moves}
 use Rattle.promises.specs.Numbered.{Numbers, created_once, run_numbers, until_service_numbers}
-use Rattle.promises.specs.Reached.{run_reached, fresh_reached}
-use Rattle.promises.specs.RecordCounts.{service_closes, step_few}
-use Rattle.promises.specs.Ages.{one_aged, run_aged}
+use Rattle.promises.proofs.Reached.{run_reached, fresh_reached}
+use Rattle.promises.proofs.RecordCounts.{service_closes, step_few}
+use Rattle.promises.proofs.Ages.{one_aged, run_aged}
 
 -- ── Made ───────────────────────────────────────────────────────────────────────────────────────────────────────────────
 
 pub made : MadeFresh
-unfolding make if◌then◌else◌
+unfolding make when◌then◌else◌
 made asked p h = go (in_range (with_defaults asked)) refl h
   where
     go : (b : Bool) → in_range (with_defaults asked) ≡ b
-        → (if b then Made (fresh (with_defaults asked)) else NotMade OptionsOutOfRange) ≡ Made p → Fresh asked p
+        → (when b then Made (fresh (with_defaults asked)) else NotMade OptionsOutOfRange) ≡ Made p → Fresh asked p
     go true e k =
         let same : p ≡ fresh (with_defaults asked) = cc in
         let fine = limits_of (with_defaults asked) e in
@@ -48,7 +48,7 @@ record Balanced (out : Out Pool) (i : ℕ) : Type 0 where
 
 balanced : (o : Options) (out : Out Pool) → Moves [] [] (fresh o) out → Numbers (fresh o) out → (i : ℕ) → Balanced out i
 unfolding held
-balanced o out m n i = record { once = created_once (fresh o) out n i; even = omega (arith, conserved o out m (λ n. if n =? i then 1 else 0)) }
+balanced o out m n i = record { once = created_once (fresh o) out n i; even = omega (arith, conserved o out m (λ n. when n =? i then 1 else 0)) }
 
 pub connections : (o : Options) → o.minimum ≤ o.maximum → (calls : List Call) → Connections o calls
 connections o h calls =
@@ -66,7 +66,7 @@ connections o h calls =
     each = balanced o (run calls (fresh o)) (run_moves calls (fresh o)) (run_numbers calls (fresh o))
 
 in_often : {i : ℕ} {l : List ℕ} → Memᴰ i l → 1 ≤ often i l
-unfolding sum_of if◌then◌else◌
+unfolding sum_of when◌then◌else◌
 in_often {i} (Memᴰ.head {x = n} e) = rw (eq-eqb n i (sym e)) (omega arith)
 in_often (Memᴰ.tail m) = omega (arith, in_often m)
 
@@ -85,18 +85,18 @@ front_rising lo [] b r = tt
 front_rising lo (n ∷ a) b r = (r.0, front_rising n a b r.1)
 
 below_rising : (l : List ℕ) (lo i : ℕ) → i ≤ lo → Rising lo l → often i l ≡ 0
-unfolding sum_of if◌then◌else◌
+unfolding sum_of when◌then◌else◌
 below_rising [] lo i h r = refl
 below_rising (n ∷ l) lo i h r =
     let k : lo < n = r.0 in
     rw (ne_eqb n i (λ e. omega arith)) (omega (arith, below_rising l n i (omega arith) r.1))
 
 rising_once : (l : List ℕ) (lo i : ℕ) → Rising lo l → often i l ≤ 1
-unfolding sum_of if◌then◌else◌
+unfolding sum_of when◌then◌else◌
 rising_once [] lo i r = omega arith
 rising_once (n ∷ l) lo i r = go (n =? i) refl (rising_once l n i r.1)
   where
-    go : (b : Bool) → (n =? i) ≡ b → often i l ≤ 1 → (if b then 1 else 0) + often i l ≤ 1
+    go : (b : Bool) → (n =? i) ≡ b → often i l ≤ 1 → (when b then 1 else 0) + often i l ≤ 1
     go true e h = omega (arith, below_rising l n i (omega (arith, eqb-true n i e)) r.1)
     go false e h = omega arith
 

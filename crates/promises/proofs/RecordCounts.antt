@@ -1,23 +1,19 @@
 -- How many records there are: a service stage closes no more than were available, and an event writes no more than there is room for.
-use Rattle.std.specs.Prelude.{◌≡◌, refl, Bool, true, false, List, [], ◌∷◌, reverse, ℕ, zero, suc, ◌+◌, ◌-◌, ◌*◌, ◌≤◌, max, length}
-use Rattle.std.proofs.Common.{length-append, arith}
-use Rattle.std.proofs.lemmas.List.{length-map, length-reverse}
-use Rattle.definition.specs.Words.{if◌then◌else◌}
-use Rattle.definition.specs.Pool.{Pool, Conn, Waiter, is_ready, total, slot_count, with_clock, with_last_request, with_waiting, with_available}
-use Rattle.definition.specs.Records.{Record, PoolCleared, Reply, Cleared, told}
-use Rattle.definition.specs.Steps.{Out, Act, ◌>>◌, nothing, emit, become, leave_lent, leave_pending, shelve, lend_out, create_pending_connection, create_many, close_perished, tell_all, enter, queue, request, abandon, check_in, clear, mark_as_ready, succeeded, succeeded_for_pool, failed, remove_perished, ensure_min_connections, maintenance, repin, shut, handle, establish, lend, take_available, check_out, serve_front, service, serviced, event}
+use Rattle.std.specs.Prelude.{◌≡◌, refl, List, [], ◌∷◌, reverse, ℕ, suc, ◌+◌, ◌*◌, ◌≤◌, max, length}
+use Rattle.std.proofs.Common.{arith}
+use Rattle.std.proofs.lemmas.List.{length-reverse}
+use Rattle.definition.specs.Pool.{Pool, Conn, Waiter, total, slot_count, with_clock, with_waiting, with_available}
+use Rattle.definition.specs.Records.{told}
+use Rattle.definition.specs.Steps.{Act, ◌>>◌, shelve, lend_out, create_pending_connection, close_perished, handle, establish, lend, take_available, check_out, serve_front, service, serviced, event}
 use Rattle.definition.specs.Refusals.{Result, after, room_records}
 use Rattle.definition.specs.declared.Event.{Event}
-use Rattle.definition.specs.declared.Event.TheVariants.{CheckOut, WarmPool, Abandon, CheckIn, Clear, MarkAsReady, Succeeded, SucceededForPool, Failed, Maintenance, FillPool, Pin, ReturnToPinner, TakeFromPinner, Close}
 use Rattle.definition.specs.declared.Frame.{Frame}
-use Rattle.definition.specs.declared.PoolState.{PoolState}
-use Rattle.definition.specs.declared.PoolState.TheVariants.{New, Paused, Ready, Closed}
-use Rattle.definition.specs.declared.Purpose.TheVariants.{Background}
 use Rattle.definition.specs.Log.{closed}
-use Rattle.definition.specs.Sentences.{if_both}
-use Rattle.definition.specs.RecordBound.{Few, few_then, handle_few, service_few}
+use Rattle.definition.proofs.Sentences.{if_both}
+use Rattle.definition.specs.RecordBound.{Few}
+use Rattle.definition.proofs.RecordBound.{few_then, handle_few, service_few}
 use Rattle.promises.specs.Calls.{Named, Stepped, no_step, a_step, passed_named}
-use Rattle.promises.specs.Bound.{handle_fits}
+use Rattle.promises.proofs.Bound.{handle_fits}
 use Rattle.promises.specs.Reached.{Reached}
 
 -- ── Closed by a service stage ──────────────────────────────────────────────────────────────────────────────────────────

@@ -1,9 +1,9 @@
 -- Every connection of a pool that stands for lists is in one place: a slot is of one class, and no id stands in two slots.
-use Rattle.std.specs.Prelude.{◌≡◌, refl, true, false, not, ◌&&◌, List, [], ◌∷◌, ◌≢◌, ℕ, ◌+◌, ◌≤◌, ◌<◌, length, get_or, take}
+use Rattle.std.specs.Prelude.{◌≡◌, refl, true, false, List, [], ◌∷◌, ◌≢◌, ℕ, ◌+◌, ◌≤◌, ◌<◌, length, get_or, take}
 use Rattle.std.proofs.Common.{ap, sym, subst, ◌∙◌, arith, eq-eqb, ne_eqb}
 use Rattle.std.proofs.Math.Option.{Option, none, some}
 use Rattle.definition.specs.Booleans.{by_bool, by_eq}
-use Rattle.definition.specs.Words.{if◌then◌else◌, ◌=?◌}
+use Rattle.definition.specs.Words.{when◌then◌else◌}
 use Rattle.definition.specs.Pool.{Pool, Conn, slot_count, total}
 use Rattle.definition.specs.Log.{numbers, often, sum_of}
 use Rattle.promises.specs.Promises.{standing}
@@ -17,11 +17,11 @@ use Rattle.refinement.specs.Stands.{Stands}
 -- ── How often a number stands in a list ────────────────────────────────────────────────────────────────────────────────
 
 often_here : (i n : ℕ) (l : List ℕ) → n ≡ i → often i (n ∷ l) ≡ 1 + often i l
-unfolding sum_of if◌then◌else◌
+unfolding sum_of when◌then◌else◌
 often_here i n l e = rw (eq-eqb n i e)
 
 often_there : (i n : ℕ) (l : List ℕ) → (n ≡ i → ⊥) → often i (n ∷ l) ≡ often i l
-unfolding sum_of if◌then◌else◌
+unfolding sum_of when◌then◌else◌
 often_there i n l e = rw (ne_eqb n i e) (omega arith)
 
 often_none : (i : ℕ) → often i [] ≡ 0
@@ -30,7 +30,7 @@ often_none i = refl
 
 -- whoever is not looked up does not stand there
 unlisted : (i : ℕ) (l : List Conn) → lookup i l ≡ none → often i (numbers l) ≡ 0
-unfolding lookup if◌then◌else◌
+unfolding lookup when◌then◌else◌
 unlisted i [] h = often_none i
 unlisted i (c ∷ l) h =
     by_eq c.id i
@@ -124,7 +124,7 @@ one_place {p} {m} st i =
 -- ── Whatever lists it stands for ───────────────────────────────────────────────────────────────────────────────────────
 
 listed_once : (i : ℕ) (l : List Conn) (s : Slot) → Once l → lookup i l ≡ some s → often i (numbers l) ≡ 1
-unfolding lookup if◌then◌else◌
+unfolding lookup when◌then◌else◌
 listed_once i [] s o h = let z : ◌≡◌ {A = ℕ} 0 1 = cc in absurd (omega arith)
 listed_once i (c ∷ l) s o h =
     by_eq c.id i

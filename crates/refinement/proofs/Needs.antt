@@ -1,10 +1,10 @@
 -- A pool that stands for lists meets what the functions ask.
-use Rattle.std.specs.Prelude.{◌≡◌, refl, Bool, true, not, ◌&&◌, ◌||◌, ℕ, ◌+◌, ◌-◌, ◌≤◌, ◌<◌, length, get_or, take}
+use Rattle.std.specs.Prelude.{◌≡◌, refl, Bool, true, not, ◌&&◌, ℕ, ◌+◌, ◌-◌, ◌≤◌, ◌<◌, length, get_or, take}
 use Rattle.std.proofs.Math.Bool.{false}
-use Rattle.std.proofs.Common.{true≢false, arith, get_or-take, length-take-le}
+use Rattle.std.proofs.Common.{arith, get_or-take, length-take-le}
 use Rattle.std.proofs.lemmas.Bool.{false≢true, eqb-false}
 use Rattle.definition.specs.Booleans.{by_bool, by_lt, or_right}
-use Rattle.definition.specs.Words.{if◌then◌else◌, ◌<?◌, ◌=?◌}
+use Rattle.definition.specs.Words.{when◌then◌else◌, ◌<?◌, ◌=?◌}
 use Rattle.definition.specs.Pool.{queue_length, slot_count, Pool, with_waiting, is_closed}
 use Rattle.definition.specs.Steps.{serviced, nothing, ◌>>◌}
 use Rattle.definition.specs.Refusals.{last_next_id}
@@ -18,16 +18,17 @@ use Rattle.slots.specs.Call.{target}
 use Rattle.slots.specs.Needs.{CanCreate, CanClose, CanShelve, CanLeave, CanPrune, CanFill, CanQueue, CanTell, CanClear, CanTake, CanWarm, CanServe}
 use Rattle.refinement.specs.Mirror.{is_lent, is_pending, Listed, all_at}
 use Rattle.refinement.specs.Stands.{Stands, Formed}
-use Rattle.refinement.specs.Transit.{counted, at_most, one_less}
+use Rattle.refinement.proofs.Transit.{counted, at_most, one_less}
 use Rattle.refinement.specs.Queue.{others}
-use Rattle.refinement.specs.Acts.{vacancy}
-use Rattle.refinement.specs.Walks.{remove_perished_same, close_front_same}
-use Rattle.refinement.specs.Service.{dequeued}
-use Rattle.refinement.specs.Events.{Holds, fit_clock, handle_same}
+use Rattle.refinement.proofs.Acts.{vacancy}
+use Rattle.refinement.proofs.Walks.{remove_perished_same, close_front_same}
+use Rattle.refinement.proofs.Service.{dequeued}
+use Rattle.refinement.specs.Events.{Holds}
+use Rattle.refinement.proofs.Events.{fit_clock, handle_same}
 use Rattle.refinement.specs.Tests.{Passed}
 use Rattle.refinement.specs.Leaves.{Leaves, leaves_all, leaves_if, prune_leaves, service_leaves}
-use Rattle.refinement.specs.Call.{clock_stands}
-use Rattle.refinement.specs.Formed.{event_numbers, ids_left, closed_takes}
+use Rattle.refinement.proofs.Call.{clock_stands}
+use Rattle.refinement.proofs.Formed.{event_numbers, ids_left, closed_takes}
 
 module _ {p : SlotPool} {m : Pool} (st : Stands p m) where
   pub whole : Whole p
@@ -132,7 +133,7 @@ can_serve_after p e now f h =
     let q : SlotPool = (S.handle e i (View.with_clock p now)).pool in
     let o = handle_same e i (View.with_clock p now) _ (clock_stands now f.stands) (fit_clock now p i e h.fit) in
     let n = event_numbers p e now i f.stands.alike.limits h f.numbers in
-    let l : Leaves false 1 q ((if serviced e then S.service else nothing) q) = leaves_if (serviced e) S.service nothing q (λ _. service_leaves q) (λ _. leaves_all 1 q) in
+    let l : Leaves false 1 q ((when serviced e then S.service else nothing) q) = leaves_if (serviced e) S.service nothing q (λ _. service_leaves q) (λ _. leaves_all 1 q) in
     (whole o.stands, can_serve o.stands (omega (arith, l.more, n)))
 
 -- between the parts of maintenance, and between those of closing

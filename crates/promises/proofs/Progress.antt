@@ -6,7 +6,7 @@ use mathlib.Core.List.Memᴰ
 use mathlib.Core.List.{List, [], ◌∷◌, ◌++◌, Memᴰ, head-eq_of_cons-eq, tail-eq_of_cons-eq, append_assoc}
 use Rattle.std.proofs.lemmas.List.{length-map}
 use Rattle.definition.specs.Booleans.{and_left, and_right}
-use Rattle.definition.specs.Words.{if◌then◌else◌, ◌<?◌, any?, some?}
+use Rattle.definition.specs.Words.{when◌then◌else◌, ◌<?◌, any?, some?}
 use Rattle.definition.specs.Pool.{Pool, Waiter, is_ready, is_closed, with_clock, with_waiting}
 use Rattle.definition.specs.Steps.{Out, ◌>>◌, nothing, tell_all, enter, abandon, repin, shut, handle, can_service, serve_front, service, serviced, event}
 use Rattle.definition.specs.Refusals.{taken_after_close, Result, Refused, Accepted, Call, after, run}
@@ -17,12 +17,13 @@ use Rattle.definition.specs.declared.Frame.TheVariants.{Good, Bad}
 use Rattle.definition.specs.Log.{answered, ids}
 use Rattle.promises.specs.Promises.{Waits, InTimeFrom, InTimeBeforeFrom}
 use Rattle.promises.specs.Runs.{arrivals, taken, accepted, result, next, front_abandoned, gives_back, puts, one_if, count_of, times}
-use Rattle.definition.specs.Sentences.{answered_append, check_out_says}
+use Rattle.definition.proofs.Sentences.{answered_append, check_out_says}
 use Rattle.promises.specs.Calls.{Stepped, no_step, a_step, stepped, passed_open}
-use Rattle.promises.specs.Flow.{Flow, Calm, handle_flow, step_flow, step_calms, run_flow}
+use Rattle.promises.specs.Flow.{Flow, Calm}
+use Rattle.promises.proofs.Flow.{handle_flow, step_flow, step_calms, run_flow}
 
-if_true : {A : Type 0} {b : Bool} (x y : A) → b ≡ true → (if b then x else y) ≡ x
-unfolding if◌then◌else◌
+if_true : {A : Type 0} {b : Bool} (x y : A) → b ≡ true → (when b then x else y) ≡ x
+unfolding when◌then◌else◌
 if_true {b = true} x y h = refl
 if_true {b = false} x y h = absurd (false≢true h)
 

@@ -1,8 +1,8 @@
 -- The steps that name one connection or one waiter, and those that name none.
 use Rattle.std.specs.Prelude.{◌≡◌, Bool, true, false, List, [], ◌∷◌, ◌++◌, map, ℕ, ◌+◌, ◌/◌, ◌%◌, ◌<◌, length, get_or}
 use Rattle.std.proofs.Math.Path.{refl}
-use Rattle.std.proofs.Common.{ap, sym, subst, ◌∙◌, arith}
-use Rattle.definition.specs.Words.{if◌then◌else◌}
+use Rattle.std.proofs.Common.{ap, subst, arith}
+use Rattle.definition.specs.Words.{when◌then◌else◌}
 use Rattle.definition.specs.Pool as P
 use Rattle.definition.specs.Pool.{queue_length, slot_count, Pool, Waiter, is_ready, is_closed, find}
 use Rattle.definition.specs.Records.{ConnectionReady, ConnectionCheckedIn, PoolReady, PoolCleared, Interrupt, Reply, Cleared, told}
@@ -15,11 +15,12 @@ use Rattle.slots.specs.View.{SlotPool}
 use Rattle.slots.specs.View as View
 use Rattle.slots.specs.Slots as S
 use Rattle.refinement.specs.Mirror.{is_lent, is_pending}
-use Rattle.refinement.specs.Alike.{alike_status, alike_queue, alike_request}
+use Rattle.refinement.proofs.Alike.{alike_status, alike_queue, alike_request}
 use Rattle.refinement.specs.Stands.{Stands, Same}
-use Rattle.refinement.specs.Transit.{counted}
-use Rattle.refinement.specs.Queue.{queue_emptied, queue_joined, queue_later, queue_marked}
-use Rattle.refinement.specs.Acts.{same_nothing, same_emit, same_then, same_said, same_silent, same_if, Transit, is_stale, close_at_same, shelve_same, lend_out_same, lent_transit, lent_is, pending_transit, pending_is}
+use Rattle.refinement.proofs.Transit.{counted}
+use Rattle.refinement.proofs.Queue.{queue_emptied, queue_joined, queue_later, queue_marked}
+use Rattle.refinement.specs.Acts.{Transit}
+use Rattle.refinement.proofs.Acts.{same_nothing, same_emit, same_then, same_said, same_silent, same_if, is_stale, close_at_same, shelve_same, lend_out_same, lent_transit, lent_is, pending_transit, pending_is}
 
 -- ── The queue and the mode change ──────────────────────────────────────────────────────────────────────────────────────
 
@@ -59,19 +60,19 @@ lents_same st = omega (arith, st.table.total, st.table.pendings, counted st.tabl
 -- all but the interrupt
 cleared_same : (timeout : Bool) (cause : ℕ) (p : SlotPool) (m : Pool) → Stands p m
     → Same ((S.cleared_ready timeout cause >> S.enter (Paused cause) (p.generation + 1)) p)
-    (((if is_ready m.state then emit (PoolCleared timeout cause (m.generation + 1)) >> D.tell_all (Cleared cause) else nothing) >> D.enter (Paused cause) (m.generation + 1)) m)
+    (((when is_ready m.state then emit (PoolCleared timeout cause (m.generation + 1)) >> D.tell_all (Cleared cause) else nothing) >> D.enter (Paused cause) (m.generation + 1)) m)
 unfolding S.cleared_ready
 cleared_same timeout cause p m st =
     let g : p.generation + 1 ≡ m.generation + 1 = ap (λ (x : ℕ). x + 1) st.alike.generation in
     let said = PoolCleared timeout cause (p.generation + 1) in
     let said' = PoolCleared timeout cause (m.generation + 1) in
-    let all : Same (S.cleared_ready timeout cause p) ((if is_ready m.state then emit said' >> D.tell_all (Cleared cause) else nothing) m) = same_if _ _ _ _ p m (ap is_ready st.alike.state)
+    let all : Same (S.cleared_ready timeout cause p) ((when is_ready m.state then emit said' >> D.tell_all (Cleared cause) else nothing) m) = same_if _ _ _ _ p m (ap is_ready st.alike.state)
     (λ _. same_then (emit said) (S.tell_all (Cleared cause)) (emit said') (D.tell_all (Cleared cause)) p m (same_emit said said' p m (ap (λ (x : ℕ). PoolCleared timeout cause x) g) st) (tell_all_same (Cleared cause) p m st))
     (λ _. same_nothing st) in
     same_then (S.cleared_ready timeout cause) (S.enter (Paused cause) (p.generation + 1)) _ (D.enter (Paused cause) (m.generation + 1)) p m all (enter_same (Paused cause) (p.generation + 1) (m.generation + 1) _ _ g all.stands)
 
 pub clear_same : (timeout : Bool) (cause : ℕ) (p : SlotPool) (m : Pool) → Stands p m → Same (S.clear timeout cause p) (D.clear timeout cause m)
-unfolding S.clear S.interrupted D.clear if◌then◌else◌
+unfolding S.clear S.interrupted D.clear when◌then◌else◌
 clear_same true cause p m st = same_said (S.interrupted true) _ (emit (Interrupt (length m.lent))) _ p m (ap (λ (x : ℕ). Interrupt x ∷ []) (lents_same st)) (cleared_same true cause p m st)
 clear_same false cause p m st = same_said (S.interrupted false) _ nothing _ p m refl (cleared_same false cause p m st)
 

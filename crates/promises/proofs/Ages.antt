@@ -1,18 +1,17 @@
 -- What the records say of ages: one that is closed as idle was available for as long as the limit, and of no other is an age told.
-use Rattle.std.specs.Prelude.{◌≡◌, Bool, ◌&&◌, ◌||◌}
+use Rattle.std.specs.Prelude.{◌≡◌, Bool, ◌||◌}
 use Rattle.std.proofs.Math.Path.{refl}
 use Rattle.std.proofs.Common.{sym, ap, subst, ◌∙◌, true≢false, arith, ltb-true, leb-true}
 use Rattle.std.proofs.Math.Bool.{true, false}
 use mathlib.Core.List.{List, [], ◌∷◌, ◌++◌, map, Memᴰ}
-use Prim.Native.Nat.{ℕ, zero, suc, ◌-◌, ◌≤◌, ◌<◌, min}
+use Prim.Native.Nat.{ℕ, zero, suc, ◌-◌, ◌≤◌, ◌<◌}
 use Rattle.definition.specs.Booleans.{and_left, and_right}
-use Rattle.definition.specs.Words.{if◌then◌else◌, ◌<?◌, ◌≤?◌}
+use Rattle.definition.specs.Words.{when◌then◌else◌, ◌<?◌, ◌≤?◌}
 use Rattle.definition.specs.Pool.{Pool, Conn, Waiter, idle_for, stale, idle, perished, age_told, with_clock}
 use Rattle.definition.specs.Records.{Record, ConnectionCreated, ConnectionReady, ConnectionCheckedIn, ConnectionClosed, PoolReady, PoolCleared, PoolShut, Interrupt, Replied, Reply, told}
 use Rattle.definition.specs.Steps.{closed_with_pool, Out, Act, ◌>>◌, leave_lent, leave_pending, shelve, lend_out, create_pending_connection, create_many, close_perished, tell_all, enter, queue, request, abandon, check_in, clear, mark_as_ready, succeeded, succeeded_for_pool, failed, remove_perished, ensure_min_connections, maintenance, repin, shut, handle, establish, lend, take_available, check_out, serve_front, service, event}
 use Rattle.definition.specs.Refusals.{Result, Call, after, run}
-use Rattle.definition.specs.Sentences.{if_both}
-use Rattle.definition.specs.declared.ClosedReason.{ClosedReason}
+use Rattle.definition.proofs.Sentences.{if_both}
 use Rattle.definition.specs.declared.ClosedReason.TheVariants.{Idle, Stale}
 use Rattle.definition.specs.declared.Event.{Event}
 use Rattle.definition.specs.declared.Event.TheVariants.{CheckOut, WarmPool, Abandon, CheckIn, Clear, MarkAsReady, Succeeded, SucceededForPool, Failed, Maintenance, FillPool, Pin, ReturnToPinner, TakeFromPinner, Close}
@@ -23,7 +22,7 @@ use Rattle.definition.specs.declared.PoolState.TheVariants.{New, Paused, Ready, 
 use Rattle.promises.specs.Promises.{AgeSaid}
 use Rattle.promises.specs.Runs.{result, next}
 use Rattle.promises.specs.Calls.{Stepped, no_step, a_step, stepped}
-use Rattle.promises.specs.Keeps.{step_options}
+use Rattle.promises.proofs.Keeps.{step_options}
 
 -- ── The idle test ──────────────────────────────────────────────────────────────────────────────────────────────────────
 
@@ -35,8 +34,8 @@ idle_reaches limit since now =
     (λ _ h. absurd (true≢false (sym h)))
 
 perished_age_lem : (outdated : Bool) (limit since now : ℕ) → (outdated || 0 <? idle_for limit since now) ≡ true
-    → AgeSaid limit (if outdated then Stale else Idle) (age_told outdated (idle_for limit since now))
-unfolding if◌then◌else◌
+    → AgeSaid limit (when outdated then Stale else Idle) (age_told outdated (idle_for limit since now))
+unfolding when◌then◌else◌
 perished_age_lem true limit since now h = refl
 perished_age_lem false limit since now h =
     let k = idle_reaches limit since now h in
@@ -92,8 +91,8 @@ module _ (limit : ℕ) where
   }
 
   tells_if : {b : Bool} (a₁ a₂ : Act Pool) (p : Pool) → (b ≡ true → Tells p (a₁ p)) → (b ≡ false → Tells p (a₂ p))
-      → Tells p ((if b then a₁ else a₂) p)
-  unfolding if◌then◌else◌
+      → Tells p ((when b then a₁ else a₂) p)
+  unfolding when◌then◌else◌
   tells_if {b = true} a₁ a₂ p f g = f refl
   tells_if {b = false} a₁ a₂ p f g = g refl
 
@@ -105,7 +104,7 @@ module _ (limit : ℕ) where
   close_perished_tells : (c : Conn) (p : Pool) → perished p c ≡ true → Tells p (close_perished c p)
   unfolding close_perished
   close_perished_tells c p e = record {
-    aged = λ h. (subst (λ (x : ℕ). AgeSaid x (if stale p c then Stale else Idle) (age_told (stale p c) (idle p c))) h (perished_age_lem (stale p c) p.options.idle c.time p.clock e), tt);
+    aged = λ h. (subst (λ (x : ℕ). AgeSaid x (when stale p c then Stale else Idle) (age_told (stale p c) (idle p c))) h (perished_age_lem (stale p c) p.options.idle c.time p.clock e), tt);
     options_stay = refl;
   }
 

@@ -7,7 +7,7 @@ use Prim.Native.Nat.{ℕ, zero, suc, ◌-◌, ◌<◌}
 use native.Mathlib.Omega.{arith}
 use Rattle.std.proofs.lemmas.List.{length-reverse}
 use Rattle.definition.specs.Booleans.{by_eq}
-use Rattle.definition.specs.Words.{if◌then◌else◌, ◌<?◌, ◌≤?◌, ◌=?◌, ◌∷ʳ◌, some?}
+use Rattle.definition.specs.Words.{when◌then◌else◌, ◌<?◌, ◌≤?◌, ◌=?◌, ◌∷ʳ◌, some?}
 use Rattle.definition.specs.Pool as P
 use Rattle.definition.specs.Pool.{slot_count, Pool, Conn, Waiter, is_ready, total}
 use Rattle.definition.specs.Records.{Pooled, Establishing, Warmed, told}
@@ -22,11 +22,15 @@ use Rattle.slots.specs.View as View
 use Rattle.slots.specs.Slots as S
 use Rattle.slots.specs.StepLaws.{room_to_create}
 use Rattle.refinement.specs.Stands.{Stands, Same}
-use Rattle.refinement.specs.Transit.{counted, at_most}
-use Rattle.refinement.specs.Queue.{others, queue_front, queue_left}
-use Rattle.refinement.specs.Acts.{same_nothing, same_emit, same_then, same_said, same_if, Transit, Is, shelve_same, lend_out_same, create_same}
-use Rattle.refinement.specs.Alike.{Queue, alike_queue}
-use Rattle.refinement.specs.Walks.{shown, back_shown, back_transit, perished_same, close_perished_same, close_counts, back_counts}
+use Rattle.refinement.proofs.Transit.{counted, at_most}
+use Rattle.refinement.specs.Queue.{others}
+use Rattle.refinement.proofs.Queue.{queue_front, queue_left}
+use Rattle.refinement.specs.Acts.{Transit, Is}
+use Rattle.refinement.proofs.Acts.{same_nothing, same_emit, same_then, same_said, same_if, shelve_same, lend_out_same, create_same}
+use Rattle.refinement.specs.Alike.{Queue}
+use Rattle.refinement.proofs.Alike.{alike_queue}
+use Rattle.refinement.specs.Walks.{shown}
+use Rattle.refinement.proofs.Walks.{back_shown, back_transit, perished_same, close_perished_same, close_counts, back_counts}
 
 pub establish_same : (w : Waiter) (p : SlotPool) (m : Pool) → Stands p m → p.total < slot_count → Same (S.establish w p) (D.establish w m)
 unfolding S.establish D.establish
@@ -110,8 +114,8 @@ waiting_none : {p : SlotPool} {m : Pool} → Stands p m → p.waitings ≡ 0 →
 waiting_none {p} st z = sym st.alike.queue.waits ∙ ap (λ (x : ℕ). map waiter_of (take x p.waiters)) z
 
 -- the front waiter, if there is one
-front_same : (p : SlotPool) (m : Pool) → Stands p m → (p.availables ≡ 0 → p.total < slot_count) → Same ((if p.waitings =? 0 then nothing else S.serve_front) p) (D.serve_front m.waiting m)
-unfolding if◌then◌else◌ D.serve_front
+front_same : (p : SlotPool) (m : Pool) → Stands p m → (p.availables ≡ 0 → p.total < slot_count) → Same ((when p.waitings =? 0 then nothing else S.serve_front) p) (D.serve_front m.waiting m)
+unfolding when◌then◌else◌ D.serve_front
 front_same p m st z =
     by_eq p.waitings 0
     (λ e. rw (eq-eqb p.waitings 0 e) (subst (λ (l : List Waiter). Same (nothing p) (D.serve_front l m)) (sym (waiting_none st e)) (same_nothing st)))

@@ -1,0 +1,10 @@
+pub mod States
+pub mod Reached
+pub mod Keeps
+pub mod Bound
+pub mod Tested
+pub mod RecordCounts
+pub mod Ages
+pub mod Progress
+pub mod Proved
+pub mod Flow

@@ -1,0 +1,16 @@
+pub mod Alike
+pub mod Events
+pub mod Tests
+pub mod RecordRoom
+pub mod Rules
+pub mod Call
+pub mod Formed
+pub mod Promise
+pub mod Transit
+pub mod Acts
+pub mod Queue
+pub mod Handle
+pub mod Walks
+pub mod Service
+pub mod Needs
+pub mod Places

@@ -1,5 +1,7 @@
 // What the steps are made of: each act on the lent parts, as specs/Slots of the crate slots has it.
 // A record goes out as number n of its event; an act that writes one hands back the head and the count.
+#![tactic(auto)]
+
 ghost use Rattle.std.specs.Prelude.{◌≡◌, ◌+◌, ◌*◌, ◌≤◌, ◌<◌, length};
 ghost use Rattle.definition.specs.Pool.{slot_count};
 ghost use Rattle.definition.specs.Records.{fields_of, told};
@@ -13,7 +15,7 @@ ghost use Rattle.slots.specs.Slots.{close_at, shelve, set_state_at, pop_front, p
 
 use slots::{Head, Numbers, ORDER, States, Times, Waiters};
 
-#[derive(Drop)]
+#[derive(Clone, Copy)]
 pub struct Progress {
     pub head: Head,
     pub count: u32,

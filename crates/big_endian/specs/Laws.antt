@@ -1,5 +1,5 @@
 -- What stands at the front of a list after its tail was lent, and the four bytes of a number above 2³².
-use Rattle.std.specs.Prelude.{◌≡◌, List, [], ◌∷◌, ◌++◌, ℕ, ◌+◌, ◌-◌, ◌/◌, ◌%◌, length, take, drop}
+use Rattle.std.specs.Prelude.{◌≡◌, List, [], ◌++◌, ℕ, ◌+◌, ◌-◌, ◌/◌, ◌%◌, length, take, drop}
 use Rattle.std.proofs.Common.{sym, ap, ◌∙◌, append_assoc, append-nil, arith, length-drop, drop_of_length-le, take_all, take_at, drop_at, drop-drop}
 use Rattle.definition.specs.Bytes.{be4}
 

@@ -1,4 +1,6 @@
 // Numbers of 4 and of 8 bytes, big-endian: read at a place, and written at the front of a lent slice.
+#![tactic(auto)]
+
 ghost use Rattle.std.specs.Prelude.{◌≡◌, ◌++◌, ◌+◌, ◌≤◌, ◌<◌, length, drop};
 ghost use Rattle.definition.specs.Bytes.{be4, be8, at4, at8};
 

@@ -1,4 +1,6 @@
 // A connection that was lent is given back: it is closed, or available again.
+#![tactic(auto)]
+
 ghost use Rattle.slots.specs.View.{given, before, after, Whole};
 ghost use Rattle.slots.specs.Done.{Room, Done};
 ghost use Rattle.slots.specs.Needs.{CanClose, CanShelve};

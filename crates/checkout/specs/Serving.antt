@@ -5,7 +5,7 @@ use Rattle.std.proofs.Common.{sym, ap, ◌∙◌, arith, lt-ltb, le-ltb, le-leb,
 use Rattle.std.proofs.Math.Bool.{true, false}
 use mathlib.Core.List.{List}
 use Rattle.std.proofs.lemmas.Bool.{lt-leb}
-use Rattle.definition.specs.Words.{if◌then◌else◌, ◌<?◌, ◌≤?◌, ◌=?◌}
+use Rattle.definition.specs.Words.{when◌then◌else◌, ◌<?◌, ◌≤?◌, ◌=?◌}
 use Rattle.definition.specs.Pool.{is_ready}
 use Rattle.definition.specs.Records.{Warmed, fields_of, told}
 use Rattle.definition.specs.Bytes.{serial_of, record_bytes}
@@ -65,25 +65,25 @@ module _ (h : Head) where
 module _ (w : ℕ) (p : SlotPool) where
   check_out_by : (b c : Bool) → (waiter_of w).warm ≡ b → p.options.minimum ≤? p.total ≡ c
       → check_out (waiter_of w) p
-      ≡ (if b then (if c then emit (told Warmed (waiter_of w)) else establish (waiter_of w)) else take_from p.availables (waiter_of w)) p
+      ≡ (when b then (when c then emit (told Warmed (waiter_of w)) else establish (waiter_of w)) else take_from p.availables (waiter_of w)) p
   unfolding check_out
   check_out_by b c e f = rw (e, f)
 
   module _ {s n m : ℕ} {l l' : List ℕ} {q : SlotPool} where
     -- it is to have a connection
     pub out_takes : (w % 2 ≡ 1 → ⊥) → Done (take_from p.availables (waiter_of w) p) s n l q m l' → Done (check_out (waiter_of w) p) s n l q m l'
-    unfolding if◌then◌else◌
+    unfolding when◌then◌else◌
     out_takes h d = done_as (check_out_by false (p.options.minimum ≤? p.total) (ne_eqb _ _ h) refl) d
 
     -- it is to warm the pool, and there are too few
     pub out_low : w % 2 ≡ 1 → p.total < p.options.minimum → Done (establish (waiter_of w) p) s n l q m l' → Done (check_out (waiter_of w) p) s n l q m l'
-    unfolding if◌then◌else◌
+    unfolding when◌then◌else◌
     out_low h k d = done_as (check_out_by true false (eq-eqb _ _ h) (lt-leb _ _ k)) d
 
   -- or enough
   pub out_warm : {s n : ℕ} {l l' : List ℕ} → w % 2 ≡ 1 → p.options.minimum ≤ p.total
       → l' ≡ laid l (16 * n) (record_bytes (serial_of (s + n)) (fields_of (told (reply_of 18 0) (waiter_of w)))) → Done (check_out (waiter_of w) p) s n l p (n + 1) l'
-  unfolding if◌then◌else◌
+  unfolding when◌then◌else◌
   out_warm h k e = done_as (check_out_by true true (eq-eqb _ _ h) (le-leb _ _ k)) (done_emit (told Warmed (waiter_of w)) p refl e)
 
 -- what creating one asks, where there are too few
@@ -103,16 +103,16 @@ above (suc x) h = omega arith
 
 -- b is what the test said
 module _ (p : SlotPool) {b : Bool} (e : b ≡ can_service p) where
-  service_by : (c : Bool) → p.waitings =? 0 ≡ c → service p ≡ (if b then (if c then nothing else serve_front) else nothing) p
+  service_by : (c : Bool) → p.waitings =? 0 ≡ c → service p ≡ (when b then (when c then nothing else serve_front) else nothing) p
   unfolding service
   service_by c f = rw (e, f)
 
   pub service_shut : {s n : ℕ} {l : List ℕ} → b ≡ false → Done (service p) s n l p n l
-  unfolding if◌then◌else◌
+  unfolding when◌then◌else◌
   service_shut h = done_as (service_by (p.waitings =? 0) refl ∙ rw h) (done_nothing p)
 
   pub service_none : {s n : ℕ} {l : List ℕ} → b ≡ true → p.waitings ≡ 0 → Done (service p) s n l p n l
-  unfolding if◌then◌else◌
+  unfolding when◌then◌else◌
   service_none h k = done_as (service_by true (eq-eqb _ _ k) ∙ rw h) (done_nothing p)
 
   -- the front has left
@@ -139,7 +139,7 @@ module _ (p : SlotPool) {b : Bool} (e : b ≡ can_service p) where
 
     pub served : {s n m : ℕ} {l l' : List ℕ} {q : SlotPool}
         → Done (check_out (waiter_of (get_or p.waiters 0 0)) (with_waiters p ws (p.waitings - 1))) s n l q m l' → Done (service p) s n l q m l'
-    unfolding if◌then◌else◌ serve_front dequeue
+    unfolding when◌then◌else◌ serve_front dequeue
     served {q = q} d =
         done_as (service_by false (ne_eqb _ _ k) ∙ rw h)
         (done_then dequeue (check_out (waiter_of (get_or p.waiters 0 0))) p (with_waiters p ws (p.waitings - 1)) q

@@ -1,4 +1,6 @@
 // The service stage: once after an event, the front waiter is taken.
+#![tactic(auto)]
+
 ghost use Rattle.std.specs.Prelude.{◌≡◌, ◌+◌};
 ghost use Rattle.slots.specs.View.{given, before, after, waiter_of, Whole};
 ghost use Rattle.slots.specs.Done.{Room, Done};

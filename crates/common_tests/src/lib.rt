@@ -1,4 +1,6 @@
 // The tests that every event must pass, whatever its kind: a clear's cause, the event's time, the closed pool, the numbers spent.
+#![tactic(auto)]
+
 ghost use Rattle.std.specs.Prelude.{◌≡◌};
 ghost use Rattle.definition.specs.Steps.{kind_no};
 ghost use Rattle.common_tests.specs.Tests.{taken_after, spent, common_verdict};
@@ -10,7 +12,7 @@ use slots::Status;
 const LAST_GENERATION: u32 = 4294967295;
 
 // What the tests that every kind shares say.
-#[derive(Drop)]
+#[derive(Clone, Copy)]
 pub enum Common {
     Refuse(Refusal),
     Pass,

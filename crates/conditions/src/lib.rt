@@ -1,6 +1,8 @@
 // Tests of a state: the pool's, and that of an available connection.
+#![tactic(auto)]
+
 ghost use Rattle.std.specs.Prelude.{◌≡◌, ◌<◌, min, length, get_or};
-ghost use Rattle.definition.specs.Words.{if◌then◌else◌, ◌<?◌};
+ghost use Rattle.definition.specs.Words.{when◌then◌else◌, ◌<?◌};
 ghost use Rattle.definition.specs.Pool.{slot_count, is_ready, is_closed, stale_in, idle_for, most_age};
 ghost use Rattle.slots.specs.View.{slots_of, order_in};
 ghost use Rattle.slots.specs.Codes.{Examines};
@@ -56,7 +58,7 @@ fn idle_for(limit: u64, since: u64, clock: u64) -> u64
 
 // What the test's answer makes of one that is not stale: 1 idle, 0 healthy.
 fn idle_reason(age: u64) -> u8
-    ensures { result ≡ (if 0 <? age then 1 else 0) }
+    ensures { result ≡ (when 0 <? age then 1 else 0) }
 {
     (0 < age) as u8
 }
@@ -73,7 +75,7 @@ fn capped(age: u64) -> u32
 
 // An available connection: its slot, why it is closed, and the age that is told then. The reason is 2 stale, else 1 idle, 0 where it is
 // healthy; only an idle one has an age.
-#[derive(Drop)]
+#[derive(Clone, Copy)]
 pub struct Examined {
     pub slot: usize,
     pub reason: u8,

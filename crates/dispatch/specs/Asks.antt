@@ -11,8 +11,8 @@ use Rattle.slots.specs.Done.{Room}
 use Rattle.slots.specs.Needs.{CanClose, CanShelve, CanLeave, CanQueue}
 use Rattle.refinement.specs.Mirror.{is_lent, is_pending}
 use Rattle.refinement.specs.Stands.{Stands}
-use Rattle.refinement.specs.Events.{Holds, Waits, New, Fit}
-use Rattle.refinement.specs.Needs.{whole, can_queue, can_close, can_shelve, can_leave}
+use Rattle.refinement.specs.Events.{Holds, New, Fit}
+use Rattle.refinement.proofs.Needs.{whole, can_queue, can_close, can_shelve, can_leave}
 use Rattle.upkeep.specs.Stood.{Stood}
 
 pub record Asks (e : Event) (i : ℕ) (p : SlotPool) : Type 0 where

@@ -1,4 +1,6 @@
 // Of the fifteen kinds of event, each goes to its step.
+#![tactic(auto)]
+
 ghost use Rattle.std.specs.Prelude.{◌≡◌, ◌≤◌, length};
 ghost use Rattle.definition.specs.Refusals.{enough_room};
 ghost use Rattle.slots.specs.View.{given, before, after};

@@ -2,7 +2,7 @@
 use Rattle.std.specs.Prelude.{◌≡◌, ℕ, ◌+◌, ◌<◌, ◌≤◌, List, length}
 use Rattle.std.proofs.Common.{sym, arith, lt-ltb, le-ltb}
 use Rattle.std.proofs.Math.Path.{ap}
-use Rattle.definition.specs.Words.{if◌then◌else◌}
+use Rattle.definition.specs.Words.{when◌then◌else◌}
 use Rattle.definition.specs.Refusals.{enough_room}
 use Rattle.definition.specs.Bytes.{serial_of}
 use Rattle.definition.specs.declared.Event.{Event}
@@ -35,14 +35,14 @@ step_done p l e now i q {s} {m} h d f =
 
 module _ (p : SlotPool) (l : List ℕ) where
   pub call_short : (f : Frame) → length l < enough_room → call p l f ≡ world p l (Refused OutputShort)
-  unfolding call if◌then◌else◌
+  unfolding call when◌then◌else◌
   call_short (Good e now) h = rw (lt-ltb (length l) enough_room h)
   call_short Bad h = rw (lt-ltb (length l) enough_room h)
 
   pub call_good : (e : Event) (now : ℕ) → enough_room ≤ length l → call p l (Good e now) ≡ step p l e now
-  unfolding call if◌then◌else◌
+  unfolding call when◌then◌else◌
   call_good e now h = rw (le-ltb (length l) enough_room h)
 
   pub call_bad : enough_room ≤ length l → call p l Bad ≡ world p l (Refused Malformed)
-  unfolding call if◌then◌else◌
+  unfolding call when◌then◌else◌
   call_bad h = rw (le-ltb (length l) enough_room h)

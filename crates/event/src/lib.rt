@@ -1,4 +1,6 @@
 // One event: its tests, what it asks for, the serial moved past its records, and the answer.
+#![tactic(auto)]
+
 ghost use Rattle.std.specs.Prelude.{◌≡◌, ◌≤◌, length};
 ghost use Rattle.definition.specs.Refusals.{enough_room};
 ghost use Rattle.slots.specs.View.{given, before, after};
@@ -8,7 +10,7 @@ ghost use Rattle.refinement.specs.Stands.{Formed};
 use definition::{Event, Frame, ROOM, Refusal};
 use slots::{Head, Numbers, Outcome, States, Times, Verdict, Waiters};
 
-#[derive(Drop)]
+#[derive(Clone, Copy)]
 pub struct Answer {
     pub head: Head,
     pub outcome: Outcome,

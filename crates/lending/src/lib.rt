@@ -1,4 +1,6 @@
 // A connection for a waiter: a new one is created, or one from the pool is lent.
+#![tactic(auto)]
+
 ghost use Rattle.slots.specs.View.{given, before, after, waiter_of, Whole};
 ghost use Rattle.slots.specs.Done.{Room, Done};
 ghost use Rattle.slots.specs.Needs.{CanCreate, CanShelve};

@@ -1,4 +1,6 @@
 // What becomes of a pending connection: for a request, in background, or failed.
+#![tactic(auto)]
+
 ghost use Rattle.slots.specs.View.{given, before, after, Whole};
 ghost use Rattle.slots.specs.Done.{Room, Done};
 ghost use Rattle.slots.specs.Needs.{CanLeave};

@@ -4,7 +4,7 @@ use Rattle.std.proofs.Common.{sym, subst, ◌∙◌, true≢false, arith}
 use Rattle.std.proofs.Math.Path.{ap}
 use Rattle.std.proofs.lemmas.Bool.{false≢true}
 use Rattle.definition.specs.Booleans.{by_bool, or_right}
-use Rattle.definition.specs.Words.{if◌then◌else◌, ◌=?◌, ◌<?◌}
+use Rattle.definition.specs.Words.{when◌then◌else◌, ◌=?◌, ◌<?◌}
 use Rattle.definition.specs.Pool.{is_closed}
 use Rattle.definition.specs.Steps.{nothing, kind_no, serviced, ◌to◌holds◌}
 use Rattle.definition.specs.Refusals.{enough_room, last_next_id}
@@ -17,12 +17,13 @@ use Rattle.slots.specs.Slots.{handle, event, service}
 use Rattle.slots.specs.Call.{target}
 use Rattle.refinement.specs.Stands.{Formed}
 use Rattle.refinement.specs.Tests.{Passed}
-use Rattle.refinement.specs.Events.{Fit, fit_clock}
+use Rattle.refinement.specs.Events.{Fit}
+use Rattle.refinement.proofs.Events.{fit_clock}
 use Rattle.refinement.specs.Leaves.{handle_leaves}
-use Rattle.refinement.specs.Call.{clock_stands}
-use Rattle.refinement.specs.Formed.{ids_left, closed_takes}
-use Rattle.refinement.specs.Needs.{can_serve_after}
-use Rattle.refinement.specs.RecordRoom.{room_after}
+use Rattle.refinement.proofs.Call.{clock_stands}
+use Rattle.refinement.proofs.Formed.{ids_left, closed_takes}
+use Rattle.refinement.proofs.Needs.{can_serve_after}
+use Rattle.refinement.proofs.RecordRoom.{room_after}
 use Rattle.dispatch.specs.Asks.{Asks}
 
 -- ── What the stages ask ────────────────────────────────────────────────────────────────────────────────────────────────
@@ -57,11 +58,11 @@ module _ (p : SlotPool) (e : Event) (i : ℕ) {k : ℕ} {b : Bool} (known : k �
 
   module _ (q : SlotPool) {n : ℕ} {l l₁ : List ℕ} (d : Done (handle e i p) p.serial 0 l q n l₁) where
     pub event_serviced : b ≡ true → {r : SlotPool} {m : ℕ} {l₂ : List ℕ} → Done (service q) q.serial n l₁ r m l₂ → Done (event e i p) p.serial 0 l r m l₂
-    unfolding event if◌then◌else◌
+    unfolding event when◌then◌else◌
     event_serviced h {r} f =
         let serial : q.serial ≡ p.serial = ap (λ (x : SlotPool). x.serial) d.pool ∙ (handle_leaves e i p).serial in
-        done_then (handle e i) (if serviced e then service else nothing) p q r d (rw (is h) (done_serial serial f))
+        done_then (handle e i) (when serviced e then service else nothing) p q r d (rw (is h) (done_serial serial f))
 
     pub event_unserviced : b ≡ false → Done (event e i p) p.serial 0 l q n l₁
-    unfolding event if◌then◌else◌
-    event_unserviced h = done_then (handle e i) (if serviced e then service else nothing) p q q d (rw (is h) (done_nothing q))
+    unfolding event when◌then◌else◌
+    event_unserviced h = done_then (handle e i) (when serviced e then service else nothing) p q q d (rw (is h) (done_nothing q))

@@ -1,4 +1,6 @@
 // What an accepted event asks for is done: its own step at its time, then the service stage, which serves the queue.
+#![tactic(auto)]
+
 ghost use Rattle.std.specs.Prelude.{◌≡◌, ◌||◌, ◌≤◌, length};
 ghost use Rattle.definition.specs.Refusals.{enough_room};
 ghost use Rattle.definition.specs.Steps.{◌to◌holds◌};

@@ -1,4 +1,6 @@
 // A record's bytes, written into the output: one record at the front of what is lent, and record n of an event behind those before it.
+#![tactic(auto)]
+
 ghost use Rattle.std.specs.Prelude.{◌≡◌, ◌+◌, ◌*◌, ◌≤◌, ◌++◌, length, drop};
 ghost use Rattle.definition.specs.Records.{fields};
 ghost use Rattle.definition.specs.Bytes.{serial_of, record_bytes};

@@ -1,4 +1,6 @@
 // A request comes to the queue or is answered at once, and one that waits is marked as abandoned.
+#![tactic(auto)]
+
 ghost use Rattle.std.specs.Prelude.{◌≡◌, ◌+◌, ◌≤◌, ◌<◌, ◌%◌, get_or};
 ghost use Rattle.definition.specs.Pool.{queue_length};
 ghost use Rattle.definition.specs.Events.{bit};

@@ -1,7 +1,7 @@
 -- The loop that fills the pool up to its minimum: what holds as a turn starts, that a turn keeps it, and what the end gives.
 use Rattle.std.specs.Prelude.{◌≡◌, refl, Bool, true, false, ◌&&◌, List, [], ℕ, zero, suc, ◌+◌, ◌-◌, ◌≤◌, ◌<◌, length}
 use Rattle.std.proofs.Common.{sym, ap, subst, ◌∙◌, arith, lt-ltb, le-ltb}
-use Rattle.definition.specs.Words.{if◌then◌else◌, ◌<?◌}
+use Rattle.definition.specs.Words.{when◌then◌else◌, ◌<?◌}
 use Rattle.definition.specs.Pool.{slot_count, is_ready}
 use Rattle.definition.specs.Steps.{Out, ◌>>◌}
 use Rattle.definition.specs.declared.Options.{Options}
@@ -32,11 +32,11 @@ pub record Filling (o : Out SlotPool) (s n₀ : ℕ) (out₀ : List ℕ) (option
 
 module _ (p : SlotPool) {b : Bool} (e : b ≡ is_ready p.state) where
   pub fill_never : {s n : ℕ} {out : List ℕ} → b ≡ false → Done (ensure_min_connections p) s n out p n out
-  unfolding ensure_min_connections if◌then◌else◌
+  unfolding ensure_min_connections when◌then◌else◌
   fill_never f = done_as (rw (sym e ∙ f)) (done_nothing p)
 
   ready : b ≡ true → ensure_min_connections p ≡ fill_up p.options.minimum p
-  unfolding ensure_min_connections if◌then◌else◌
+  unfolding ensure_min_connections when◌then◌else◌
   ready f = rw (sym e ∙ f)
 
   pub fill_start : {n : ℕ} {out : List ℕ} → b ≡ true → Whole p × CanFill p × Room slot_count n out
@@ -60,7 +60,7 @@ module _ (p : SlotPool) {b : Bool} (e : b ≡ is_ready p.state) where
 
 fill_if : (k : ℕ) (p : SlotPool) (b c : Bool) → p.total <? p.options.minimum ≡ b → p.pendings <? p.options.connecting ≡ c → b && c ≡ false
     → fill_up k p ≡ record { pool = p; records = [] }
-unfolding fill_up if◌then◌else◌
+unfolding fill_up when◌then◌else◌
 fill_if zero p b c e f h = refl
 fill_if (suc k) p b c e f h = rw (e, f, h)
 
@@ -70,7 +70,7 @@ and_no false = refl
 
 fill_goes : (k : ℕ) (p : SlotPool) → 0 < k → p.total < p.options.minimum → p.pendings < p.options.connecting
     → fill_up k p ≡ (create_pending_connection background_no >> fill_up (k - 1)) p
-unfolding fill_up if◌then◌else◌
+unfolding fill_up when◌then◌else◌
 fill_goes zero p z h g = absurd (omega arith)
 fill_goes (suc k) p z h g =
     let l : suc k - 1 ≡ k = omega arith in

@@ -4,7 +4,7 @@ use Rattle.std.proofs.Math.Path.{refl, ap}
 use Rattle.std.proofs.Common.{sym, ◌∙◌}
 use Prim.Native.Nat.{ℕ, zero, suc, ◌-◌, ◌≤◌, ◌<◌}
 use native.Mathlib.Omega.{arith}
-use Rattle.definition.specs.Words.{if◌then◌else◌}
+use Rattle.definition.specs.Words.{when◌then◌else◌}
 use Rattle.definition.specs.Pool.{slot_count}
 use Rattle.definition.specs.Steps.{Out, Act, ◌>>◌}
 use Rattle.definition.specs.declared.ClosedReason.{ClosedReason}
@@ -32,12 +32,12 @@ front_leaves {q = q} v z = front_pops q v.whole v.safe (sweep_pops v z).2
 -- r says why slot i, the front, is closed
 module _ (p : SlotPool) (i r : ℕ) (front : i ≡ get_or p.available 0 0) (why : r ≡ perished_no_at p i) where
   prune_stops : (k : ℕ) → r ≡ 0 → prune k p ≡ record { pool = p; records = [] }
-  unfolding prune if◌then◌else◌
+  unfolding prune when◌then◌else◌
   prune_stops zero z = refl
   prune_stops (suc k) z = rw (← front, is_healthy p i r why z)
 
   prune_goes : (k : ℕ) → 0 < k → (r ≡ 0 → ⊥) → (age : ℕ) → age ≡ age_told_at p i → prune k p ≡ (pop_front >> close_at (reason_of r) i age >> prune (k - 1)) p
-  unfolding prune pop_front close_perished_at if◌then◌else◌ ◌>>◌
+  unfolding prune pop_front close_perished_at when◌then◌else◌ ◌>>◌
   prune_goes zero z n age old = absurd (omega arith)
   prune_goes (suc k) z n age old =
       let l : suc k - 1 ≡ k = omega arith in

@@ -1,4 +1,6 @@
 // What goes over a list, one by one: the waiters that are told, the available ones that are closed, those that are made.
+#![tactic(auto)]
+
 ghost use Rattle.definition.specs.Pool.{slot_count};
 ghost use Rattle.slots.specs.View.{given, before, after, Whole};
 ghost use Rattle.slots.specs.Done.{Room, Done};

@@ -1,4 +1,6 @@
 // What the pool's columns need: finding, shifting, and putting a slot. Only the contract of put_slot knows what a pool is.
+#![tactic(auto)]
+
 ghost use Rattle.std.specs.Prelude.{◌≡◌, ◌+◌, ◌≤◌, ◌<◌, length};
 ghost use Rattle.definition.specs.Pool.{slot_count, queue_length};
 ghost use Rattle.slots.specs.Order.{place_of, slot_holding, vacant_slot, shifted};

@@ -5,7 +5,7 @@ use Rattle.std.proofs.Math.Path.{ap}
 use Rattle.std.proofs.Math.Bool.{true, false}
 use Prim.Native.Nat.{ℕ, suc, ◌+◌, ◌-◌, ◌≤◌, ◌<◌}
 use native.Mathlib.Omega.{arith}
-use Rattle.definition.specs.Words.{if◌then◌else◌}
+use Rattle.definition.specs.Words.{when◌then◌else◌}
 use Rattle.definition.specs.Pool.{slot_count, Waiter}
 use Rattle.definition.specs.Steps.{Out, Act, ◌>>◌}
 use Rattle.definition.specs.declared.ClosedReason.{ClosedReason}
@@ -24,7 +24,7 @@ use Rattle.slots.specs.Sweep.{Sweeping, Pops, back_pops, sweep_start, sweep_pops
 -- r says why slot i, at the back, is closed
 module _ (k : ℕ) (w : Waiter) (p : SlotPool) (i r : ℕ) (more : 0 < k) (back : i ≡ get_or p.available (k - 1) 0) (why : r ≡ perished_no_at p i) where
   abbrev go_on : Bool → ℕ → ℕ → Act SlotPool
-  go_on b j i = if b then (close_perished_at i >> take_from j w) else lend w i
+  go_on b j i = when b then (close_perished_at i >> take_from j w) else lend w i
 
   take_by : (b : Bool) → perished_at p i ≡ b → take_from k w p ≡ (pop_back >> go_on b (k - 1) i) p
   unfolding take_from
@@ -35,14 +35,14 @@ module _ (k : ℕ) (w : Waiter) (p : SlotPool) (i r : ℕ) (more : 0 < k) (back 
       ∙ ap (λ (x : Bool). (pop_back >> go_on x (k - 1) i) p) g
 
   take_goes : (r ≡ 0 → ⊥) → (age : ℕ) → age ≡ age_told_at p i → take_from k w p ≡ (pop_back >> (close_at (reason_of r) i age >> take_from (k - 1) w)) p
-  unfolding if◌then◌else◌ pop_back close_perished_at ◌>>◌
+  unfolding when◌then◌else◌ pop_back close_perished_at ◌>>◌
   take_goes n age old =
       take_by true (is_perished p i r why n)
       ∙ ap (λ (x : ClosedReason). (pop_back >> (close_at x i (age_told_at p i) >> take_from (k - 1) w)) p) (perished_reason p i r why n)
       ∙ ap (λ (x : ℕ). (pop_back >> (close_at (reason_of r) i x >> take_from (k - 1) w)) p) (sym old)
 
   take_stops : r ≡ 0 → take_from k w p ≡ (pop_back >> lend w i) p
-  unfolding if◌then◌else◌
+  unfolding when◌then◌else◌
   take_stops z = take_by false (is_healthy p i r why z)
 
 -- ── The loop ───────────────────────────────────────────────────────────────────────────────────────────────────────────

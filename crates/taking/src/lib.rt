@@ -1,4 +1,6 @@
 // A waiter takes from the available back, past those that have perished.
+#![tactic(auto)]
+
 ghost use Rattle.std.specs.Prelude.{◌+◌};
 ghost use Rattle.slots.specs.View.{given, before, after, waiter_of, Whole};
 ghost use Rattle.slots.specs.Done.{Room, Done};

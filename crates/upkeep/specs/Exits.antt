@@ -2,7 +2,7 @@
 use Rattle.std.specs.Prelude.{◌≡◌, Bool, true, false, List, ℕ, ◌+◌, ◌*◌, ◌≤◌}
 use Rattle.std.proofs.Math.Path.{refl}
 use Rattle.std.proofs.Common.{sym, subst, ◌∙◌, arith}
-use Rattle.definition.specs.Words.{if◌then◌else◌}
+use Rattle.definition.specs.Words.{when◌then◌else◌}
 use Rattle.definition.specs.Pool.{Pool, slot_count, queue_length, is_ready}
 use Rattle.definition.specs.Bytes.{serial_of, record_bytes}
 use Rattle.definition.specs.Records.{Reply, fields, PoolReady, PoolCleared, PoolShut, Cleared, Gone}
@@ -17,8 +17,8 @@ use Rattle.slots.specs.Needs.{CanFill, CanTell}
 use Rattle.slots.specs.Slots.{remove_perished, ensure_min_connections, maintenance, mark_as_ready, enter, tell_all, lents, interrupted, cleared_ready, clear, close_front, shut}
 use Rattle.slots.specs.StepLaws.{ready_already, ready_now}
 use Rattle.slots.specs.View.{SlotPool, Whole, with_status}
-use Rattle.refinement.specs.Needs.{can_fill_after, can_tell_after}
-use Rattle.refinement.specs.RecordRoom.{pruned_few, closed_few}
+use Rattle.refinement.proofs.Needs.{can_fill_after, can_tell_after}
+use Rattle.refinement.proofs.RecordRoom.{pruned_few, closed_few}
 use Rattle.refinement.specs.Stands.{Stands}
 use Rattle.upkeep.specs.Stood.{Said, interrupting}
 use Rattle.upkeep.specs.Laws.{interrupted_said, interrupting_few, cleared_ready_lem, cleared_other, closed_serial, told_serial, pruned_serial, told_few}
@@ -55,11 +55,11 @@ module _ (p : SlotPool) {s n : ℕ} {l : List ℕ} {b : Bool} (e : b ≡ is_read
 module _ (timeout : Bool) (lent : ℕ) {s : ℕ} {l : List ℕ} where
   pub interrupt_said : {x : ℕ} {k : List ℕ} → timeout ≡ true → x ≡ lent → k ≡ laid l (16 * 0) (record_bytes (serial_of (s + 0)) (fields 8 0 0 x))
       → Said (interrupting timeout lent) s 0 l 1 k
-  unfolding if◌then◌else◌ lay
+  unfolding when◌then◌else◌ lay
   interrupt_said h e o = rw h (record { count = refl; out = rw (← e) o })
 
   pub interrupt_unsaid : timeout ≡ false → Said (interrupting timeout lent) s 0 l 0 l
-  unfolding if◌then◌else◌ lay
+  unfolding when◌then◌else◌ lay
   interrupt_unsaid h = rw h (record { count = refl; out = refl })
 
   pub interrupt_few : {n : ℕ} {k : List ℕ} → Said (interrupting timeout lent) s 0 l n k → n ≤ 1
@@ -67,10 +67,10 @@ module _ (timeout : Bool) (lent : ℕ) {s : ℕ} {l : List ℕ} where
 
 module _ (timeout : Bool) (cause : ℕ) (p : SlotPool) where
   module _ {s n : ℕ} {l : List ℕ} {b : Bool} (e : b ≡ is_ready p.state) where
-    pub ready_cleared : b ≡ true → {f x g : ℕ} {k : List ℕ} → f ≡ (if timeout then 1 else 0) → x ≡ cause → g ≡ p.generation + 1
+    pub ready_cleared : b ≡ true → {f x g : ℕ} {k : List ℕ} → f ≡ (when timeout then 1 else 0) → x ≡ cause → g ≡ p.generation + 1
         → k ≡ laid l (16 * n) (record_bytes (serial_of (s + n)) (fields 6 f x g))
         → (q : SlotPool) {m : ℕ} {j : List ℕ} → Done (tell_all (reply_of 19 cause) p) s (n + 1) k q m j → Done (cleared_ready timeout cause p) s n l q m j
-    unfolding if◌then◌else◌
+    unfolding when◌then◌else◌
     ready_cleared h flag id next o q d =
         let r = PoolCleared timeout cause (p.generation + 1) in
         done_as (cleared_ready_lem timeout cause p (sym e ∙ h))
@@ -107,7 +107,7 @@ module _ {p : SlotPool} {m : Pool} (st : Stands p m) (q : SlotPool) {s n : ℕ} 
 pub all_shut : (p q r : SlotPool) {n m : ℕ} {l k j i : List ℕ} → Done (close_front p.availables p) p.serial 0 l q n k
     → Done (tell_all (reply_of 20 0) q) q.serial n k r m j → i ≡ laid j (16 * m) (record_bytes (serial_of (r.serial + m)) (fields 7 0 0 0))
     → Done (shut p) p.serial 0 l (with_status r Closed p.generation) (m + 1) i
-unfolding shut enter if◌then◌else◌
+unfolding shut enter when◌then◌else◌
 all_shut p q r d e o =
     let closed = closed_serial p q p.availables d.pool in
     let told : r.serial ≡ p.serial = told_serial q r Gone e.pool ∙ closed in

@@ -2,7 +2,7 @@
 use Rattle.std.specs.Prelude.{◌≡◌, refl, Bool, true, false, List, ℕ, ◌+◌, ◌≤◌, length}
 use Rattle.std.proofs.Common.{arith, length-append, length-take}
 use Rattle.std.proofs.lemmas.List.{length-map}
-use Rattle.definition.specs.Words.{if◌then◌else◌}
+use Rattle.definition.specs.Words.{when◌then◌else◌}
 use Rattle.definition.specs.Pool.{is_ready}
 use Rattle.definition.specs.Records.{Reply, PoolCleared, Cleared}
 use Rattle.definition.specs.Steps.{emit, nothing, ◌>>◌}
@@ -15,23 +15,23 @@ use Rattle.upkeep.specs.Stood.{interrupting}
 -- ── A clear ────────────────────────────────────────────────────────────────────────────────────────────────────────────
 
 pub interrupted_said : (timeout : Bool) (p : SlotPool) → interrupted timeout p ≡ record { pool = p; records = interrupting timeout (lents p) }
-unfolding interrupted if◌then◌else◌
+unfolding interrupted when◌then◌else◌
 interrupted_said true p = refl
 interrupted_said false p = refl
 
 pub interrupting_few : (timeout : Bool) (n : ℕ) → length (interrupting timeout n) ≤ 1
-unfolding if◌then◌else◌
+unfolding when◌then◌else◌
 interrupting_few true n = omega arith
 interrupting_few false n = omega arith
 
 module _ (timeout : Bool) (cause : ℕ) (p : SlotPool) where
   pub cleared_ready_lem : is_ready p.state ≡ true
       → cleared_ready timeout cause p ≡ (emit (PoolCleared timeout cause (p.generation + 1)) >> tell_all (Cleared cause)) p
-  unfolding cleared_ready if◌then◌else◌
+  unfolding cleared_ready when◌then◌else◌
   cleared_ready_lem h = rw h
 
   pub cleared_other : is_ready p.state ≡ false → cleared_ready timeout cause p ≡ nothing p
-  unfolding cleared_ready if◌then◌else◌
+  unfolding cleared_ready when◌then◌else◌
   cleared_other h = rw h
 
 -- ── The serial, which an event moves at its end ────────────────────────────────────────────────────────────────────────

@@ -1,6 +1,6 @@
 -- What these steps ask, and what is said of an output alone.
 use Rattle.std.specs.Prelude.{◌≡◌, Bool, List, [], ◌∷◌, ℕ, ◌+◌, length}
-use Rattle.definition.specs.Words.{if◌then◌else◌}
+use Rattle.definition.specs.Words.{when◌then◌else◌}
 use Rattle.definition.specs.Pool.{Pool}
 use Rattle.definition.specs.Records.{Record, Interrupt}
 use Rattle.slots.specs.View.{SlotPool}
@@ -18,4 +18,4 @@ pub record Said (rs : List Record) (s n : ℕ) (l : List ℕ) (m : ℕ) (k : Lis
   pub out : k ≡ lay s n rs l
 
 abbrev pub interrupting : Bool → ℕ → List Record
-interrupting timeout lent = if timeout then Interrupt lent ∷ [] else []
+interrupting timeout lent = when timeout then Interrupt lent ∷ [] else []

@@ -1,6 +1,8 @@
 // The steps that go over the whole pool: maintenance, ready, clear and close.
+#![tactic(auto)]
+
 ghost use Rattle.std.specs.Prelude.{◌≡◌, ◌+◌, ◌-◌, ◌≤◌, length};
-ghost use Rattle.definition.specs.Words.{if◌then◌else◌};
+ghost use Rattle.definition.specs.Words.{when◌then◌else◌};
 ghost use Rattle.definition.specs.Refusals.{enough_room, last_next_id, last_generation};
 ghost use Rattle.slots.specs.View.{given, before, after, Whole};
 ghost use Rattle.slots.specs.Done.{Room, Done};
@@ -87,7 +89,7 @@ fn interrupt(head: Head, out: &mut [u8], timeout: bool) -> u32
 }
 
 fn flag(b: bool) -> u8
-    ensures { result ≡ (if b then 1 else 0) }
+    ensures { result ≡ (when b then 1 else 0) }
 {
     if b { 1 } else { 0 }
 }

@@ -4,7 +4,7 @@ use Rattle.std.proofs.Math.Path.{sym}
 use Rattle.std.proofs.Common.{ap, ◌∙◌, arith}
 use Rattle.std.proofs.Math.ListN.{get_or-eq_default}
 use borrow.Author.Tests.{le-leb, lt-leb, lt-ltb, le-ltb}
-use Rattle.definition.specs.Words.{if◌then◌else◌}
+use Rattle.definition.specs.Words.{when◌then◌else◌}
 use Rattle.definition.specs.Pool.{slot_count}
 use Rattle.definition.specs.Refusals.{first}
 use Rattle.definition.specs.declared.Event.{Event}
@@ -66,15 +66,15 @@ module _ (waiters : List ℕ) (waiting id : ℕ) {k : ℕ} (e : k ≡ place_of i
   waits = or_accept (place_of id waiting waiters) (first (abandon_list waiters waiting id))
 
   pub still_waits : k < waiting → get_or waiters k 0 % 4 < 2 → Accept k ≡ waits
-  unfolding first if◌then◌else◌
+  unfolding first when◌then◌else◌
   still_waits h g = rw (← e, lt-ltb k waiting h, lt-ltb (get_or waiters k 0 % 4) 2 g)
 
   pub was_abandoned : k < waiting → 2 ≤ get_or waiters k 0 % 4 → Refuse NotWaiting ≡ waits
-  unfolding first if◌then◌else◌
+  unfolding first when◌then◌else◌
   was_abandoned h g = rw (← e, lt-ltb k waiting h, le-ltb (get_or waiters k 0 % 4) 2 g)
 
   pub never_waits : waiting ≤ k → Refuse NotWaiting ≡ waits
-  unfolding first if◌then◌else◌
+  unfolding first when◌then◌else◌
   never_waits h = rw (← e, le-ltb k waiting h)
 
 -- ── A state, and a time ────────────────────────────────────────────────────────────────────────────────────────────────
@@ -84,25 +84,25 @@ module _ (at state low high second last now : ℕ) where
   timed = or_accept at (first (time_list state low high second last now))
 
   pub time_below : state < low → Refuse WrongState ≡ timed
-  unfolding first if◌then◌else◌
+  unfolding first when◌then◌else◌
   time_below a = rw (lt-leb low state a)
 
   module _ (a : low ≤ state) where
     pub time_above : high < state → Refuse WrongState ≡ timed
-    unfolding first if◌then◌else◌
+    unfolding first when◌then◌else◌
     time_above b = rw (le-leb low state a, lt-leb state high b)
 
     module _ (b : state ≤ high) where
       pub time_later : now < second → Refuse WrongTime ≡ timed
-      unfolding first if◌then◌else◌
+      unfolding first when◌then◌else◌
       time_later c = rw (le-leb low state a, le-leb state high b, lt-ltb now second c)
 
       pub time_earlier : second ≤ now → second < last → Refuse WrongTime ≡ timed
-      unfolding first if◌then◌else◌
+      unfolding first when◌then◌else◌
       time_earlier c d = rw (le-leb low state a, le-leb state high b, le-ltb now second c, lt-ltb second last d)
 
       pub time_right : second ≤ now → last ≤ second → Accept at ≡ timed
-      unfolding first if◌then◌else◌
+      unfolding first when◌then◌else◌
       time_right c d = rw (le-leb low state a, le-leb state high b, le-ltb now second c, le-ltb second last d)
 
 -- ── The tests of one kind ──────────────────────────────────────────────────────────────────────────────────────────────

@@ -2,7 +2,7 @@
 use Rattle.std.specs.Prelude.{◌≡◌, refl, Bool, true, false, ◌&&◌, List, [], ◌∷◌, ℕ, ◌≤◌}
 use Rattle.std.proofs.Common.{sym, ◌∙◌, true≢false, arith, le-leb, eq-eqb, leb-true, leb-false, eqb-true}
 use Rattle.std.proofs.Math.Option.{none, some}
-use Rattle.definition.specs.Words.{if◌then◌else◌, ◌≤?◌, ◌=?◌}
+use Rattle.definition.specs.Words.{when◌then◌else◌, ◌≤?◌, ◌=?◌}
 use Rattle.definition.specs.Steps.{◌to◌holds◌}
 use Rattle.definition.specs.Refusals.{Test, ◌if◌, first}
 use Rattle.definition.specs.declared.Refusal.{Refusal}
@@ -35,7 +35,7 @@ not_pinned s a b = go (3 ≤? s) refl (s ≤? 4) refl
 
 -- tests in two groups: the first of the first group, or else of the second
 pub first_of : (a b c d : Test) (ts : List Test) → (first (a ∷ b ∷ c ∷ d ∷ []) ≡ none → first (a ∷ b ∷ c ∷ d ∷ ts) ≡ first ts)
-unfolding first if◌then◌else◌
+unfolding first when◌then◌else◌
 first_of (x if true) b c d ts h = let z : ◌≡◌ {A = ℕ} 0 1 = cc in absurd (omega arith)
 first_of (x if false) (y if true) c d ts h = let z : ◌≡◌ {A = ℕ} 0 1 = cc in absurd (omega arith)
 first_of (x if false) (y if false) (w if true) d ts h = let z : ◌≡◌ {A = ℕ} 0 1 = cc in absurd (omega arith)
@@ -43,7 +43,7 @@ first_of (x if false) (y if false) (w if false) (v if true) ts h = let z : ◌�
 first_of (x if false) (y if false) (w if false) (v if false) ts h = refl
 
 pub first_by : (a b c d : Test) (ts : List Test) (r : Refusal) → (first (a ∷ b ∷ c ∷ d ∷ []) ≡ some r → first (a ∷ b ∷ c ∷ d ∷ ts) ≡ some r)
-unfolding first if◌then◌else◌
+unfolding first when◌then◌else◌
 first_by (x if true) b c d ts r h = h
 first_by (x if false) (y if true) c d ts r h = h
 first_by (x if false) (y if false) (w if true) d ts r h = h

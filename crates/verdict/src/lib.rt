@@ -1,9 +1,11 @@
 // What the tests say of an event: refused, or at which slot or waiter.
+#![tactic(auto)]
+
 ghost use Rattle.std.specs.Prelude.{◌≡◌, ◌≤◌, length};
 ghost use Rattle.definition.specs.Pool.{slot_count, queue_length};
 ghost use Rattle.definition.specs.Refusals.{first};
 ghost use Rattle.slots.specs.Order.{place_of};
-ghost use Rattle.slots.specs.View.{ids_in, slots_of, given, before, Whole};
+ghost use Rattle.slots.specs.View.{ids_in, slots_of, pool_of, Whole};
 ghost use Rattle.slots.specs.Call.{or_accept, no_target, verdict};
 ghost use Rattle.verdict.specs.Look.{Looks, request_list, abandon_list, state_list, time_list, pin_list, kind_verdict};
 
@@ -15,7 +17,7 @@ use slots::{Head, Numbers, States, Times, Verdict, Waiters};
 const NO_TARGET: usize = 0;
 
 // The slot of an id, the count of slots where it has none, and what stands there.
-#[derive(Drop)]
+#[derive(Clone, Copy)]
 pub struct Found {
     pub at: usize,
     pub state: u8,
@@ -125,8 +127,8 @@ pub fn kind_verdict(
     e: Event,
     time: u64,
 ) -> Verdict
-    requires { Whole (given head numbers times states waiters) × (head.waiting_count ≤ queue_length) }
-    ensures { result ≡ kind_verdict (before head numbers times states waiters) e time }
+    requires { Whole (pool_of head numbers.now times.now states.now waiters.now) × (head.waiting_count ≤ queue_length) }
+    ensures { result ≡ kind_verdict (pool_of head numbers.now times.now states.now waiters.now) e time }
 {
     match e {
         Event::CheckOut(id) => request_verdict(head.last_request, head.waiting_count, id),
@@ -184,8 +186,8 @@ pub fn verdict(
     e: Event,
     time: u64,
 ) -> Verdict
-    requires { Whole (given head numbers times states waiters) × (head.waiting_count ≤ queue_length) }
-    ensures { result ≡ verdict (before head numbers times states waiters) e time }
+    requires { Whole (pool_of head numbers.now times.now states.now waiters.now) × (head.waiting_count ≤ queue_length) }
+    ensures { result ≡ verdict (pool_of head numbers.now times.now states.now waiters.now) e time }
 {
     let m = head.status;
     match common_tests::common_verdict(head.clock, head.next_connection_id, m, time, e) {

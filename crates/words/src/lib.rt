@@ -1,4 +1,6 @@
 // Small words that the code is written in.
+#![tactic(auto)]
+
 ghost use Rattle.std.specs.Prelude.{◌≡◌, ◌&&◌};
 
 // Both are known before: no branch in a loop.

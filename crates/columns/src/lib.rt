@@ -1,4 +1,6 @@
 // A pool value's slots taken apart into the columns that the engine works on, and put together again.
+#![tactic(auto)]
+
 ghost use Rattle.std.specs.Prelude.{◌≡◌};
 ghost use Rattle.definition.specs.Pool.{state_no, state_of_no};
 ghost use Rattle.columns.specs.View.{slot_of, columns_of, table_of};
@@ -44,7 +46,7 @@ pub fn state_of(code: u8) -> ConnectionState
 
 // ── Taken apart ──
 
-#[derive(Drop)]
+#[derive(Clone, Copy)]
 pub struct Parts {
     pub numbers: Numbers,
     pub times: Times,
@@ -89,7 +91,7 @@ fn slot_of(id: u32, generation: u32, time: u64, code: u8) -> Slot
     }
 }
 
-#[derive(Drop)]
+#[derive(Clone, Copy)]
 pub struct Table {
     pub slots: [Slot; SLOTS],
     pub available: [u8; SLOTS],

@@ -2,6 +2,8 @@
 // minimum and connecting, 3 to 6 the counts of all, pending, available and waiting, 7 the next id, 8 the last request, 9 the serial,
 // 10 the generation; 11 to 14 a slot's id, generation, time and state, 15 a place of the available list, 16 one of the queue, 17 the
 // clock; 18 makes the pool New, 19 Paused for that cause, 20 Ready, 21 Closed.
+#![tactic(auto)]
+
 use definition::{Options, PoolState, QUEUE, SLOTS};
 use pool::{Pool, Slot};
 use slots::{Head, Status};

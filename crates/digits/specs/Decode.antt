@@ -1,7 +1,7 @@
 -- Digits read without a branch: all numbers first, then pairs of them, and whether all were digits.
 use Rattle.std.specs.Prelude.{◌≡◌, Bool, true, false, List, [], ◌∷◌, map, ℕ, ◌+◌, ◌*◌, ◌%◌}
 use Rattle.std.proofs.Math.Option.{Option, none, some}
-use Rattle.definition.specs.Words.{if◌then◌else◌, ◌<?◌}
+use Rattle.definition.specs.Words.{when◌then◌else◌, ◌<?◌}
 use Rattle.definition.specs.Bytes.{value_of}
 use Rattle.digits.specs.declared.Numbers.{Numbers}
 use Rattle.digits.specs.declared.Bytes.{Bytes}
@@ -16,7 +16,7 @@ number c = or_sixteen (value_of c)
 
 unfoldable pub digits? : List ℕ → Bool
 digits? [] = true
-digits? (v ∷ vs) = if v <? 16 then digits? vs else false
+digits? (v ∷ vs) = when v <? 16 then digits? vs else false
 
 -- two numbers make a byte, whatever they are
 unfoldable pub pairs_of : List ℕ → List ℕ
@@ -29,4 +29,4 @@ pub record Numbered (cs : List ℕ) (r : Numbers) : Type 0 where
   pub good : r.good ≡ digits? (map number cs)
 
 abbrev pub bytes_in : Bytes → Option (List ℕ)
-bytes_in r = if r.good then some r.bytes else none
+bytes_in r = when r.good then some r.bytes else none

@@ -1,4 +1,6 @@
 // The bytes of a line, read from its hexadecimal digits.
+#![tactic(auto)]
+
 ghost use Rattle.std.specs.Prelude.{◌≡◌, ◌≤◌, length, take};
 ghost use Rattle.definition.specs.Bytes.{unhex, bytes_of};
 ghost use Rattle.digits.specs.Decode.{number, pairs_of, Numbered, bytes_in};
@@ -23,7 +25,7 @@ fn number_of(c: u8) -> u8
 }
 
 // The numbers of 48 digits, and whether all are digits.
-#[derive(Drop)]
+#[derive(Clone, Copy)]
 struct Numbers {
     good: bool,
     numbers: [u8; 48],
@@ -64,7 +66,7 @@ fn paired(numbers: [u8; 48]) -> [u8; 24]
 }
 
 // 24 bytes, where all digits were good.
-#[derive(Drop)]
+#[derive(Clone, Copy)]
 pub struct Bytes {
     pub good: bool,
     pub bytes: [u8; 24],

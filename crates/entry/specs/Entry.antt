@@ -1,6 +1,6 @@
 -- The entry points, for all inputs: what a call leaves.
 use Rattle.std.specs.Prelude.{Bool, List, ℕ, length}
-use Rattle.definition.specs.Words.{if◌then◌else◌, ◌<?◌}
+use Rattle.definition.specs.Words.{when◌then◌else◌, ◌<?◌}
 use Rattle.definition.specs.Refusals.{refusal_no, enough_room}
 use Rattle.definition.specs.Bytes.{frame_of}
 use Rattle.definition.specs.declared.Refusal.TheVariants.{OutputShort, Malformed}
@@ -40,6 +40,6 @@ back w = entered (pool_from w.pool) w.out w.outcome
 -- any pool value, any bytes, any output
 unfoldable pub entry : Pool → (bytes : List ℕ) → (out : List ℕ) → Entered
 entry p b l =
-    if length l <? enough_room then entered p l (Refused OutputShort) else
-    if keeps p then back (call (view_of p) l (frame_of b)) else
+    when length l <? enough_room then entered p l (Refused OutputShort) else
+    when keeps p then back (call (view_of p) l (frame_of b)) else
     entered p l (Refused Malformed)

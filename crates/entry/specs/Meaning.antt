@@ -1,11 +1,11 @@
 -- What the entry points mean: on a pool that keeps the rules a call is the definition's step, and any calls of a made pool are
 -- the definition's run; a pool that breaks a rule is refused; a making is the definition's; counts are lengths.
-use Rattle.std.specs.Prelude.{◌≡◌, refl, true, false, List, [], ◌∷◌, map, ℕ, ◌+◌, ◌≤◌, length, take}
+use Rattle.std.specs.Prelude.{◌≡◌, refl, true, false, List, [], ◌∷◌, map, ℕ, ◌+◌, length, take}
 use Rattle.std.proofs.Common.{sym, ap, subst, ◌∙◌, arith, length-take-le, ltb-true, ltb-false}
 use Rattle.std.proofs.Math.Option.{Option, none, some}
 use Rattle.std.proofs.lemmas.List.{length-map}
 use Rattle.definition.specs.Booleans.{by_bool, by_eq}
-use Rattle.definition.specs.Words.{if◌then◌else◌, ◌<?◌}
+use Rattle.definition.specs.Words.{when◌then◌else◌, ◌<?◌}
 use Rattle.definition.specs.Pool as D
 use Rattle.definition.specs.Pool.{fresh, with_defaults, in_range}
 use Rattle.definition.specs.Steps.{Out}
@@ -17,17 +17,18 @@ use Rattle.definition.specs.declared.Refusal.{Refusal}
 use Rattle.definition.specs.declared.Refusal.TheVariants.{OutputShort, Malformed, OptionsOutOfRange}
 use Rattle.slots.specs.View.{SlotPool, Slot, waiter_of}
 use Rattle.slots.specs.View as View
-use Rattle.slots.specs.Slots as S
 use Rattle.slots.specs.Done.{lay}
 use Rattle.slots.specs.Call.{call}
 use Rattle.slots.specs.declared.Outcome.{Outcome}
 use Rattle.slots.specs.declared.Outcome.TheVariants.{Refused, Accepted}
 use Rattle.refinement.specs.Stands.{Stands, Formed}
-use Rattle.refinement.specs.Rules.{Rules, lists_of, rules_stand, rules_formed, formed_rules}
-use Rattle.refinement.specs.Transit.{counted}
-use Rattle.refinement.specs.Call.{call_refines, refines_stands}
+use Rattle.refinement.specs.Rules.{Rules, lists_of}
+use Rattle.refinement.proofs.Rules.{rules_stand, rules_formed, formed_rules}
+use Rattle.refinement.proofs.Transit.{counted}
+use Rattle.refinement.proofs.Call.{call_refines, refines_stands}
 use Rattle.refinement.specs.Alike.{fresh_slots}
-use Rattle.refinement.specs.Formed.{fresh_stands, fresh_formed, call_formed, Lent, as_call, ran, wrote, writes, run_refines}
+use Rattle.refinement.specs.Formed.{Lent, as_call, ran, wrote, writes}
+use Rattle.refinement.proofs.Formed.{fresh_stands, fresh_formed, call_formed, run_refines}
 use Rattle.event.specs.Laws.{call_short}
 use Rattle.rules.specs.Tests.{hangs_together, keeps_rules}
 use Rattle.columns.specs.View.{id_of, view_of, pool_from}
@@ -43,10 +44,10 @@ use Rattle.pool.specs.declared.Counts.{Counts}
 
 -- 1 comes before 2, and nothing is changed
 abbrev pub short_or_bad : List ℕ → Refusal
-short_or_bad l = if length l <? enough_room then OutputShort else Malformed
+short_or_bad l = when length l <? enough_room then OutputShort else Malformed
 
 pub unkept : (p : Pool) (b l : List ℕ) → keeps p ≡ false → entry p b l ≡ entered p l (Refused (short_or_bad l))
-unfolding entry if◌then◌else◌
+unfolding entry when◌then◌else◌
 unkept p b l k = by_bool (length l <? enough_room) (λ h. rw h) (λ h. rw (h, k))
 
 pub entry_unkept : (p : Pool) → Typed p → (Rules (view_of p) → ⊥) → (b l : List ℕ) → entry p b l ≡ entered p l (Refused (short_or_bad l))
@@ -221,20 +222,20 @@ pub record Makes (o : Options) (w : Made) : Type 0 where
 
 module _ (o : Options) (h : in_range (with_defaults o) ≡ true) where
   makes : make o ≡ R.Made (fresh (with_defaults o))
-  unfolding make if◌then◌else◌
+  unfolding make when◌then◌else◌
   makes = rw h
 
   pub making_makes : making o ≡ record { outcome = Accepted 0; pool = fresh_pool (with_defaults o) }
-  unfolding making if◌then◌else◌
+  unfolding making when◌then◌else◌
   making_makes = rw h
 
 module _ (o : Options) (h : in_range (with_defaults o) ≡ false) where
   makes_none : make o ≡ R.NotMade OptionsOutOfRange
-  unfolding make if◌then◌else◌
+  unfolding make when◌then◌else◌
   makes_none = rw h
 
   pub making_refuses : making o ≡ not_made OptionsOutOfRange
-  unfolding making if◌then◌else◌
+  unfolding making when◌then◌else◌
   making_refuses = rw h
 
 pub making_meant : (o : Options) → Makes o (making o)

@@ -3,11 +3,11 @@ use Rattle.std.specs.Prelude.{◌≡◌, refl, true, false, List, [], ◌∷◌,
 use Rattle.std.proofs.Common.{sym, ap, subst, ◌∙◌, true≢false, arith}
 use Rattle.std.proofs.lemmas.List.{length-replicate}
 use Rattle.definition.specs.Booleans.{by_bool}
-use Rattle.definition.specs.Words.{if◌then◌else◌}
+use Rattle.definition.specs.Words.{when◌then◌else◌}
 use Rattle.definition.specs.Pool as D
 use Rattle.definition.specs.Pool.{fresh, in_range}
 use Rattle.definition.specs.Records.{Record, PoolReady, told}
-use Rattle.definition.specs.Steps.{Out, ◌>>◌, leave_lent, leave_pending, shelve, lend_out, create_pending_connection, create_many, close_perished, tell_all, enter, queue, request, mark_as_ready, succeeded_for_pool, remove_perished, ensure_min_connections, maintenance, handle, can_service, establish, lend, take_available, check_out, serve_front, service, event}
+use Rattle.definition.specs.Steps.{Out, ◌>>◌, leave_lent, leave_pending, shelve, lend_out, create_pending_connection, create_many, close_perished, enter, queue, request, mark_as_ready, succeeded_for_pool, remove_perished, ensure_min_connections, maintenance, handle, can_service, establish, lend, take_available, check_out, serve_front, service, event}
 use Rattle.definition.specs.Refusals as R
 use Rattle.definition.specs.Refusals.{first, tests, outcome, after, run, enough_room}
 use Rattle.definition.specs.Bytes.{serial_of, at4, at8, frame_of_fields, frame_of, record_bytes}
@@ -16,17 +16,15 @@ use Rattle.definition.specs.declared.Options.{Options}
 use Rattle.definition.specs.declared.Event.TheVariants.{CheckOut, MarkAsReady, FillPool}
 use Rattle.definition.specs.declared.Frame.{Frame}
 use Rattle.definition.specs.declared.Frame.TheVariants.{Good}
-use Rattle.definition.specs.declared.PoolState.{PoolState}
-use Rattle.definition.specs.declared.PoolState.TheVariants.{New, Ready}
+use Rattle.definition.specs.declared.PoolState.TheVariants.{Ready}
 use Rattle.definition.specs.declared.Refusal.{Refusal}
-use Rattle.slots.specs.View.{SlotPool}
 use Rattle.slots.specs.Done.{lay}
 use Rattle.slots.specs.Laid.{laid}
-use Rattle.slots.specs.declared.Outcome.{Outcome}
 use Rattle.slots.specs.declared.Outcome.TheVariants.{Refused, Accepted}
 use Rattle.refinement.specs.Stands.{Stands, Formed}
-use Rattle.refinement.specs.Rules.{Rules, lists_of, rules_stand}
-use Rattle.refinement.specs.Formed.{fresh_stands, fresh_formed}
+use Rattle.refinement.specs.Rules.{Rules, lists_of}
+use Rattle.refinement.proofs.Rules.{rules_stand}
+use Rattle.refinement.proofs.Formed.{fresh_stands, fresh_formed}
 use Rattle.columns.specs.View.{view_of}
 use Rattle.pool.specs.Making.{fresh_pool}
 use Rattle.entry.specs.Entry.{Entered, keeps, entry}
@@ -50,11 +48,11 @@ unfoldable asked : List ℕ
 asked = frame 0x01000000 1 1 0
 
 ready_frame : frame_of ready ≡ Good MarkAsReady 1
-unfolding ready frame_of frame_of_fields at4 at8 if◌then◌else◌
+unfolding ready frame_of frame_of_fields at4 at8 when◌then◌else◌
 ready_frame = refl
 
 asked_frame : frame_of asked ≡ Good (CheckOut 1) 1
-unfolding asked frame_of frame_of_fields at4 at8 if◌then◌else◌
+unfolding asked frame_of frame_of_fields at4 at8 when◌then◌else◌
 asked_frame = refl
 
 unfoldable room : List ℕ
@@ -71,7 +69,7 @@ abbrev o2 : Out D.Pool
 o2 = outcome (Good (CheckOut 1) 1) o1.pool
 
 step1 : R.step (fresh options) (Good MarkAsReady 1) enough_room ≡ R.Accepted o1
-unfolding R.step tests first if◌then◌else◌
+unfolding R.step tests first when◌then◌else◌
 step1 = refl
 
 -- the second is accepted too; there is one record, of kind 5; then there are two, and connection 1 is taken
@@ -85,7 +83,7 @@ record Calls : Type 0 where
   second_id : o2.pool.next_id ≡ 2
 
 calls : Calls
-unfolding R.step tests first outcome event handle request queue mark_as_ready service can_service serve_front check_out take_available lend establish create_pending_connection told leave_lent leave_pending shelve lend_out enter ◌>>◌ if◌then◌else◌
+unfolding R.step tests first outcome event handle request queue mark_as_ready service can_service serve_front check_out take_available lend establish create_pending_connection told leave_lent leave_pending shelve lend_out enter ◌>>◌ when◌then◌else◌
 calls = record { second = refl; one = refl; ready = refl; written = refl; first_id = refl; two = refl; second_id = refl }
 
 kind_5 : (l : List ℕ) → get_or (lay 0 0 (PoolReady ∷ []) l) 0 0 ≡ 5
@@ -135,7 +133,7 @@ unfoldable pub fill : List ℕ
 fill = frame 0x0b000000 0 1 0
 
 fill_frame : frame_of fill ≡ Good FillPool 1
-unfolding fill frame_of frame_of_fields at4 at8 if◌then◌else◌
+unfolding fill frame_of frame_of_fields at4 at8 when◌then◌else◌
 fill_frame = refl
 
 abbrev busy_lists : D.Pool
@@ -148,7 +146,7 @@ record Busy (m : D.Pool) : Type 0 where
   fills : R.step m (Good FillPool 1) enough_room ≡ R.Accepted (outcome (Good FillPool 1) m)
 
 busy_lists_lem : Busy busy_lists
-unfolding busy_calls ready run R.step tests first outcome frame_of frame_of_fields at4 at8 event handle request queue mark_as_ready succeeded_for_pool maintenance remove_perished close_perished ensure_min_connections create_many service can_service serve_front check_out take_available lend establish create_pending_connection told leave_lent leave_pending shelve lend_out enter ◌>>◌ if◌then◌else◌
+unfolding busy_calls ready run R.step tests first outcome frame_of frame_of_fields at4 at8 event handle request queue mark_as_ready succeeded_for_pool maintenance remove_perished close_perished ensure_min_connections create_many service can_service serve_front check_out take_available lend establish create_pending_connection told leave_lent leave_pending shelve lend_out enter ◌>>◌ when◌then◌else◌
 busy_lists_lem = record { ready = refl; available = refl; waiting = refl; fills = refl }
 
 abbrev lends : List (List ℕ) → List Lend

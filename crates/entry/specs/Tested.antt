@@ -5,7 +5,7 @@ use Rattle.std.proofs.Common.{subst, ◌∙◌, lt-ltb, le-ltb}
 use Rattle.std.proofs.lemmas.Bool.{false≢true}
 use Rattle.std.proofs.lemmas.List.{length-map}
 use Rattle.definition.specs.Pool.{queue_length, slot_count}
-use Rattle.definition.specs.Words.{if◌then◌else◌}
+use Rattle.definition.specs.Words.{when◌then◌else◌}
 use Rattle.definition.specs.Refusals.{enough_room}
 use Rattle.definition.specs.Bytes.{frame_of}
 use Rattle.definition.specs.declared.Frame.{Frame}
@@ -59,15 +59,15 @@ same_test false false v x y = refl
 
 module _ (p : Pool) (b l : List ℕ) where
   pub entry_short : length l < enough_room → entry p b l ≡ entered p l (Refused OutputShort)
-  unfolding entry if◌then◌else◌
+  unfolding entry when◌then◌else◌
   entry_short h = rw (lt-ltb (length l) enough_room h)
 
   pub entry_broken : enough_room ≤ length l → keeps p ≡ false → entry p b l ≡ entered p l (Refused Malformed)
-  unfolding entry if◌then◌else◌
+  unfolding entry when◌then◌else◌
   entry_broken h k = rw (le-ltb (length l) enough_room h, k)
 
   pub entry_kept : enough_room ≤ length l → keeps p ≡ true → entry p b l ≡ back (call (view_of p) l (frame_of b))
-  unfolding entry if◌then◌else◌
+  unfolding entry when◌then◌else◌
   entry_kept h k = rw (le-ltb (length l) enough_room h, k)
 
 -- ── What the code does ─────────────────────────────────────────────────────────────────────────────────────────────────

@@ -1,4 +1,6 @@
 // The entry point: a pool value, bytes and an output, for all inputs, with no condition on any.
+#![tactic(auto)]
+
 ghost use Rattle.std.specs.Prelude.{◌≡◌};
 ghost use Rattle.entry.specs.Entry.{entered, entry};
 
@@ -7,7 +9,7 @@ use pool::Pool;
 use slots::Outcome;
 
 // The answer stands first: where it lies does not depend on the pool's size.
-#[derive(Drop)]
+#[derive(Clone, Copy)]
 pub struct Stepped {
     pub outcome: Outcome,
     pub pool: Pool,

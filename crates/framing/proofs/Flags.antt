@@ -4,7 +4,7 @@ use mathlib.Core.Bool.{Bool, true, false}
 use Prim.Native.Nat.{◌+◌, ◌*◌, ◌≤◌}
 use native.Mathlib.Omega.{arith}
 use mir.Val.{bool_byte}
-use Rattle.definition.specs.Words.{if◌then◌else◌}
+use Rattle.definition.specs.Words.{when◌then◌else◌}
 use Rattle.definition.specs.Events.{bit}
 
 pub flag_small : (b : Bool) → bool_byte b ≤ 1
@@ -12,12 +12,12 @@ flag_small true = omega arith
 flag_small false = omega arith
 
 pub flag_one : (b : Bool) → bool_byte b ≡ bit 1 b
-unfolding if◌then◌else◌
+unfolding when◌then◌else◌
 flag_one true = refl
 flag_one false = refl
 
 pub flags_both : (a b : Bool) → bool_byte a + 2 * bool_byte b ≡ bit 1 a + bit 2 b
-unfolding if◌then◌else◌
+unfolding when◌then◌else◌
 flags_both true true = refl
 flags_both true false = refl
 flags_both false true = refl

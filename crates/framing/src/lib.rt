@@ -1,4 +1,6 @@
 // The 24 bytes of an event with its time, and of options.
+#![tactic(auto)]
+
 ghost use Rattle.std.specs.Prelude.{◌≡◌, ◌∷◌, ◌++◌, ◌+◌};
 ghost use Rattle.definition.specs.Bytes.{frame_bytes, options_bytes, be4, be8};
 ghost use Rattle.definition.specs.Events.{bit};

@@ -1,4 +1,6 @@
 // The entry point on a pool that the caller keeps, and lends.
+#![tactic(auto)]
+
 ghost use Rattle.std.specs.Prelude.{◌≡◌};
 ghost use Rattle.entry.specs.Entry.{entered, entry};
 

@@ -1,5 +1,6 @@
 -- Each loop over the available list and over the queue before its turn i, one more turn of it, and its end, over variables.
 use mathlib.Core.Path.{◌≡◌, refl, sym, ◌∙◌}
+use Rattle.std.specs.Prelude.{◌≢◌}
 use mathlib.Core.Bool.{Bool, true, false, not, ◌&&◌}
 use mathlib.Core.List.{List}
 use Prim.Native.Nat.{ℕ, zero, suc, ◌+◌, ◌/◌, ◌≤◌, ◌<◌}
@@ -13,7 +14,7 @@ use Rattle.definition.specs.Booleans.{by_eq, or_false, or_true}
 use Rattle.slots.specs.Columns.{column_at}
 use Rattle.slots.specs.View.{order_in}
 use Rattle.definition.specs.Pool.{queue_length, slot_count}
-use Rattle.refinement.specs.Formed.{zeros}
+use Rattle.refinement.proofs.Formed.{zeros}
 use Rattle.slot_rules.specs.Tests.{every, among}
 use Rattle.slot_rules.proofs.Laws.{every_more, every_none, every_grow, every_fails}
 use Rattle.list_rules.specs.Tests.{blank_past, before, waiter_fits, listed_at, order_right, blank_from, queue_rises}
@@ -63,6 +64,13 @@ module _ (size n : ℕ) (l : List ℕ) where
       low = omega arith;
       so_far = every_more i blank_at ok true ok v.so_far (rw (le-ltb i n v.past, eq-eqb (get_or l i 0) 0 e)) (and-true ok);
     }
+
+    -- a turn, whatever the cell holds
+    pub blanking_more : (r : Bool) → i < size → (get_or l i 0 ≢ 0 → r ≡ false) → (get_or l i 0 ≡ 0 → r ≡ ok) → Blanking (i + 1) r
+    blanking_more r h lost kept =
+        by_eq (get_or l i 0) 0
+        (λ q. rw (kept q) (blanking_kept h q))
+        (λ q. rw (lost q) (blanking_lost h q))
 
     pub blanking_end : size ≤ i → ok ≡ blank_from size n l
     unfolding blank_from

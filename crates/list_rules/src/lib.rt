@@ -1,5 +1,7 @@
 // The rules on the available list and on the queue, each one a test: what stands in them is right, and past it stands nothing; nor
 // does anything stand in a slot past the pool's own.
+#![tactic(auto)]
+
 ghost use Rattle.std.specs.Prelude.{◌≡◌};
 ghost use Rattle.definition.specs.Pool.{slot_count, queue_length};
 ghost use Rattle.slots.specs.View.{ids_in, order_in};

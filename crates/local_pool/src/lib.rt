@@ -1,4 +1,6 @@
-// A pool in a local, lent to the entry point for one call: the loan is proved by hand.
+// A pool in a local, lent to the entry point for one call.
+#![tactic(auto)]
+
 ghost use Rattle.std.specs.Prelude.{◌≡◌};
 ghost use Rattle.entry.specs.Entry.{entered, entry};
 

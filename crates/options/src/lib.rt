@@ -1,4 +1,6 @@
 // The options that a pool is made with: what stands for a 0, and which are in range.
+#![tactic(auto)]
+
 ghost use Rattle.std.specs.Prelude.{◌≡◌};
 ghost use Rattle.definition.specs.Pool.{or_default, with_defaults, in_range};
 

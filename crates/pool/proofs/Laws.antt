@@ -2,7 +2,7 @@
 use mathlib.Core.Path.{◌≡◌, sym, ap, ◌∙◌}
 use mathlib.Core.Bool.{Bool, true, false}
 use mathlib.Core.Option.{Option}
-use Rattle.definition.specs.Words.{if◌then◌else◌}
+use Rattle.definition.specs.Words.{when◌then◌else◌}
 use Rattle.definition.specs.Pool.{with_defaults, in_range}
 use Rattle.definition.specs.declared.Options.{Options}
 use Rattle.definition.specs.declared.Refusal.TheVariants.{Malformed, OptionsOutOfRange}
@@ -16,14 +16,14 @@ use Rattle.pool.specs.declared.Made.{Made}
 
 module _ (o o' : Options) (b : Bool) (e : o' ≡ with_defaults o) (i : b ≡ in_range o') where
   pub making_done : (p : Pool) → b ≡ true → p ≡ fresh_pool o' → ◌≡◌ {A = Made} (record { outcome = Accepted 0; pool = p }) (making o)
-  unfolding making if◌then◌else◌
+  unfolding making when◌then◌else◌
   making_done p t f =
       let h : in_range (with_defaults o) ≡ true = ap in_range (sym e) ∙ sym i ∙ t in
       let g : p ≡ fresh_pool (with_defaults o) = f ∙ ap fresh_pool e in
       rw h (ap (λ (q : Pool). record { outcome = Accepted 0; pool = q }) g)
 
   pub making_refused : (m : Made) → b ≡ false → m ≡ not_made OptionsOutOfRange → m ≡ making o
-  unfolding making if◌then◌else◌
+  unfolding making when◌then◌else◌
   making_refused m t f =
       let h : in_range (with_defaults o) ≡ false = ap in_range (sym e) ∙ sym i ∙ t in
       rw h f

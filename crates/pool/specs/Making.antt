@@ -1,7 +1,7 @@
 -- The making of a pool value, and its counts.
 use Rattle.std.proofs.Math.Option.{Option, none, some}
-use Rattle.std.specs.Prelude.{ℕ, ◌-◌, replicate}
-use Rattle.definition.specs.Words.{if◌then◌else◌}
+use Rattle.std.specs.Prelude.{◌-◌, replicate}
+use Rattle.definition.specs.Words.{when◌then◌else◌}
 use Rattle.definition.specs.Pool.{queue_length, slot_count, with_defaults, in_range}
 use Rattle.definition.specs.declared.ConnectionState.TheVariants.{Vacant}
 use Rattle.definition.specs.declared.Options.{Options}
@@ -37,7 +37,7 @@ not_made r = record { outcome = Refused r; pool = no_pool }
 -- defaults are filled in first
 unfoldable pub making : Options → Made
 making o =
-    if in_range (with_defaults o)
+    when in_range (with_defaults o)
     then (record { outcome = Accepted 0; pool = fresh_pool (with_defaults o) })
     else not_made OptionsOutOfRange
 

@@ -1,4 +1,6 @@
 // The pool as a value: its type, its making and its counts.
+#![tactic(auto)]
+
 ghost use Rattle.std.specs.Prelude.{◌≡◌, ◌-◌};
 ghost use Rattle.definition.specs.Bytes.{options_of};
 ghost use Rattle.refinement.specs.Alike.{fresh_head};
@@ -8,7 +10,7 @@ use definition::{ConnectionState, Options, PoolState, QUEUE, Refusal, SLOTS};
 use reading::Given;
 use slots::{Head, Outcome, Status, Waiters};
 
-#[derive(Drop)]
+#[derive(Clone, Copy)]
 pub struct Slot {
     pub id: u32,
     pub generation: u32,
@@ -17,7 +19,7 @@ pub struct Slot {
 }
 
 // The first `available_count` of `available` are slots, and the first `waiting_count` of `waiters` are waiters.
-#[derive(Drop)]
+#[derive(Clone, Copy)]
 pub struct Pool {
     pub head: Head,
     pub slots: [Slot; SLOTS],
@@ -25,13 +27,13 @@ pub struct Pool {
     pub waiters: Waiters,
 }
 
-#[derive(Drop)]
+#[derive(Clone, Copy)]
 pub struct Made {
     pub outcome: Outcome,
     pub pool: Pool,
 }
 
-#[derive(Drop)]
+#[derive(Clone, Copy)]
 pub struct Counts {
     pub available: usize,
     pub lent: usize,

@@ -1,4 +1,6 @@
 // Records printed as lines, each function equal to the definition's.
+#![tactic(auto)]
+
 ghost use Rattle.std.specs.Prelude.{◌≡◌, ◌++◌, ◌+◌, ◌*◌, ◌≤◌, ◌<◌, length, drop};
 ghost use Rattle.definition.specs.Bytes.{digit_of, hex_of, line_of};
 ghost use Rattle.printing.specs.Printed.{printed};

@@ -1,4 +1,6 @@
 // Frames, options and lines read, each function equal to the definition's.
+#![tactic(auto)]
+
 ghost use Rattle.std.specs.Prelude.{◌≡◌};
 ghost use Rattle.definition.specs.Bytes.{plain, bare, check_in_frame, clear_frame, frame_of_fields, frame_of, options_of, frame_of_line, options_of_line};
 ghost use Rattle.definition.specs.Refusals.{causeless, malformed};
@@ -119,7 +121,7 @@ pub fn malformed(f: Frame) -> bool
 
 // ── Options ──
 
-#[derive(Drop)]
+#[derive(Clone, Copy)]
 pub enum Given {
     Options(Options),
     Malformed,

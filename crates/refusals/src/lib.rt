@@ -1,4 +1,6 @@
 // A refusal's number, and its line in the log.
+#![tactic(auto)]
+
 ghost use Rattle.std.specs.Prelude.{◌≡◌, ◌++◌, ◌≤◌, length, drop};
 ghost use Rattle.definition.specs.Records.{fields};
 ghost use Rattle.definition.specs.Refusals.{refusal_no};

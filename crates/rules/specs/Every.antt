@@ -1,16 +1,17 @@
 -- Tests and what they say: and, every, among, tally; lists by their places.
-use Rattle.std.specs.Prelude.{◌≡◌, refl, Bool, true, false, not, ◌&&◌, ◌||◌, List, [], ◌∷◌, map, ℕ, zero, suc, ◌+◌, ◌/◌, ◌≤◌, ◌<◌, length, get_or}
-use Rattle.std.proofs.Common.{sym, ap, ◌∙◌, true≢false, arith, eq-eqb, ne_eqb}
-use Rattle.std.proofs.lemmas.Bool.{false≢true, eqb-false, not-true}
+use Rattle.std.specs.Prelude.{◌≡◌, refl, Bool, true, false, not, List, [], ◌∷◌, map, ℕ, zero, suc, ◌+◌, ◌/◌, ◌≤◌, ◌<◌, length, get_or}
+use Rattle.std.proofs.Common.{sym, ap, ◌∙◌, arith, ne_eqb}
+use Rattle.std.proofs.lemmas.Bool.{eqb-false, not-true}
 use Rattle.definition.specs.Booleans.{and_left, and_right, both_true, by_eq, or_left, or_right}
-use Rattle.definition.specs.Words.{if◌then◌else◌, ◌=?◌}
+use Rattle.definition.specs.Words.{◌=?◌}
 use Rattle.slots.specs.View.{Slot, waiter_of, vacant}
 use Rattle.slots.specs.Needs.{taken}
 use Rattle.refinement.specs.Table.{one, one_pos, one_zero}
 use Rattle.refinement.specs.Agree.{Class}
 use Rattle.refinement.specs.Mirror.{All, Distinct, all_at}
 use Rattle.refinement.specs.Alike.{Rises}
-use Rattle.refinement.specs.Rules.{many, collect, one_if, many_none, many_one_if, taken_cons}
+use Rattle.refinement.specs.Rules.{many, collect, one_if}
+use Rattle.refinement.proofs.Rules.{many_none, many_one_if, taken_cons}
 use Rattle.slot_rules.specs.Tests.{every, tally, among, is_taken}
 use Rattle.list_rules.specs.Tests.{before}
 

@@ -12,10 +12,9 @@ use borrow.Author.Tests.{lt-ltb, le-ltb, le-leb, eq-eqb, ne_eqb, ltb-true, leb-t
 use Rattle.definition.specs.Limits.{limits_of, limits_pass}
 use Rattle.definition.specs.Booleans.{and_left, and_right, both_true, by_eq, by_lt, or_other}
 use Rattle.slots.specs.Columns.{first_at}
-use Rattle.definition.specs.Words.{if◌then◌else◌, ◌=?◌, ◌<?◌, ◌≤?◌}
+use Rattle.definition.specs.Words.{when◌then◌else◌, ◌=?◌, ◌<?◌, ◌≤?◌}
 use Rattle.definition.specs.Pool.{queue_length, in_range, slot_count}
 use Rattle.definition.specs.Refusals.{most_next_id}
-use Rattle.definition.specs.declared.Options.{Options}
 use Rattle.slots.specs.declared.Head.{Head}
 use Rattle.slots.specs.View.{SlotPool, Slot, pool_of, Whole, waiter_of, ids_in, order_in, vacant, slot_in}
 use Rattle.slots.specs.View as View
@@ -28,7 +27,8 @@ use Rattle.refinement.specs.Alike.{Rises}
 use Rattle.promises.specs.States.{state_fits}
 use Rattle.refinement.specs.Sites.{Dated, AllDated, Sited}
 use Rattle.refinement.specs.Stands.{Formed}
-use Rattle.refinement.specs.Rules.{Rules, is_shelved, many, rules_formed, formed_rules}
+use Rattle.refinement.specs.Rules.{Rules, is_shelved, many}
+use Rattle.refinement.proofs.Rules.{rules_formed, formed_rules}
 use Rattle.slot_rules.specs.Tests.{every, tally, among, is_taken, is_vacant, vacant_only, slot_fits, slot_fits_at, ids_below, new_id, ids_distinct, slots_fit, dated_at, slots_dated, how_many, counts_right}
 use Rattle.list_rules.specs.Tests.{blank_past, before, waiter_fits, listed_at, order_right, blank_from, queue_rises}
 use Rattle.rules.specs.Tests.{hangs_together, is_settled, keeps_rules}
@@ -79,11 +79,11 @@ module _ (cs : List ℕ) (l : length (ids_in cs) ≡ slot_count) where
 -- ── Slots ──────────────────────────────────────────────────────────────────────────────────────────────────────────────
 
 fits_vacant : (id : ℕ) (s : Slot) → id ≡ 0 → slot_fits id s ≡ is_vacant s
-unfolding slot_fits if◌then◌else◌
+unfolding slot_fits when◌then◌else◌
 fits_vacant id s e = rw (eq-eqb id 0 e)
 
 fits_used : (id : ℕ) (s : Slot) → 0 < id → slot_fits id s ≡ (1 ≤? s.state && s.state ≤? 6)
-unfolding slot_fits if◌then◌else◌
+unfolding slot_fits when◌then◌else◌
 fits_used id s z = let n : id ≡ 0 → ⊥ = λ q. omega arith in rw (ne_eqb id 0 n)
 
 used_say : (id : ℕ) (s : Slot) → 0 < id → slot_fits id s ≡ true → Used s

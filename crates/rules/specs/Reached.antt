@@ -6,10 +6,13 @@ use Rattle.definition.specs.declared.Frame.{Frame}
 use Rattle.definition.specs.declared.Options.{Options}
 use Rattle.slots.specs.View.{SlotPool}
 use Rattle.slots.specs.Call as C
-use Rattle.refinement.specs.Call.{Refines, call_refines}
+use Rattle.refinement.specs.Call.{Refines}
+use Rattle.refinement.proofs.Call.{call_refines}
 use Rattle.refinement.specs.Alike.{fresh_slots}
-use Rattle.refinement.specs.Formed.{Lent, ran, fresh_formed, ran_formed}
-use Rattle.refinement.specs.Rules.{Rules, lists_of, rules_stand, formed_rules}
+use Rattle.refinement.specs.Formed.{Lent, ran}
+use Rattle.refinement.proofs.Formed.{fresh_formed, ran_formed}
+use Rattle.refinement.specs.Rules.{Rules, lists_of}
+use Rattle.refinement.proofs.Rules.{rules_stand, formed_rules}
 
 -- whatever calls are made of a fresh pool, the pool that they leave keeps the rules
 pub reached_keeps : (o : Options) → in_range o ≡ true → (cs : List Lent) → Rules (ran cs (fresh_slots o))

@@ -1,8 +1,10 @@
 // The structure test: whether a pool keeps the rules, which is whether it stands for some lists of the definition, and for such as a
 // reached pool has.
+#![tactic(auto)]
+
 ghost use Rattle.std.specs.Prelude.{◌≡◌};
 ghost use Rattle.promises.specs.States.{state_fits};
-ghost use Rattle.slots.specs.View.{Whole, given, before};
+ghost use Rattle.slots.specs.View.{Whole, pool_of};
 ghost use Rattle.rules.specs.Exact.{Exactly};
 ghost use Rattle.rules.specs.Tests.{hangs_together, is_settled};
 
@@ -99,8 +101,8 @@ pub fn keeps_rules(
     states: &States,
     waiters: &Waiters,
 ) -> bool
-    requires { Whole (given head numbers times states waiters) }
-    ensures { Exactly result (before head numbers times states waiters) }
+    requires { Whole (pool_of head numbers.now times.now states.now waiters.now) }
+    ensures { Exactly result (pool_of head numbers.now times.now states.now waiters.now) }
 {
     let shape = hangs_together(head, numbers, times, states, waiters);
     let settled = is_settled(head, numbers, times);

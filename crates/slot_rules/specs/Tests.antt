@@ -2,7 +2,7 @@
 use Rattle.std.specs.Prelude.{◌≡◌, Bool, true, false, not, ◌&&◌, ◌||◌, List, ℕ, zero, suc, ◌+◌, get_or}
 use Rattle.std.proofs.Common.{eqb-true}
 use Rattle.definition.specs.Booleans.{and_left, and_right}
-use Rattle.definition.specs.Words.{if◌then◌else◌, ◌=?◌, ◌<?◌, ◌≤?◌}
+use Rattle.definition.specs.Words.{when◌then◌else◌, ◌=?◌, ◌<?◌, ◌≤?◌}
 use Rattle.definition.specs.Pool.{slot_count}
 use Rattle.slots.specs.View.{Slot, vacant, slot_in}
 use Rattle.refinement.specs.Agree.{Class}
@@ -45,7 +45,7 @@ vacant_only s h =
 
 -- where no connection is, the slot is vacant; where one is, it is in a state of a connection
 unfoldable pub slot_fits : ℕ → Slot → Bool
-slot_fits id s = if id =? 0 then is_vacant s else 1 ≤? s.state && s.state ≤? 6
+slot_fits id s = when id =? 0 then is_vacant s else 1 ≤? s.state && s.state ≤? 6
 
 -- whether what the columns hold of slot i fits
 abbrev pub slot_fits_at : (numbers times states : List ℕ) → ℕ → Bool

@@ -1,4 +1,6 @@
 // The rules on slots, each one a test: ids below the next and distinct, slots that fit, counts that are right.
+#![tactic(auto)]
+
 ghost use Rattle.std.specs.Prelude.{◌≡◌, ◌&&◌, not, ◌≤◌};
 ghost use Rattle.definition.specs.Pool.{slot_count};
 ghost use Rattle.definition.specs.Words.{◌=?◌, ◌<?◌};

@@ -8,7 +8,7 @@ use Prim.Native.Nat.{ℕ, zero, suc, ◌+◌, ◌-◌, ◌*◌, ◌/◌, ◌%◌
 use native.Mathlib.Omega.{arith}
 use Rattle.std.proofs.Math.ListN.{length, take, drop}
 use Rattle.std.proofs.Math.Seq.{drop-drop}
-use Rattle.definition.specs.Words.{if◌then◌else◌, ◌=?◌, any?}
+use Rattle.definition.specs.Words.{when◌then◌else◌, ◌=?◌, any?}
 use Rattle.definition.specs.Booleans.{by_bool}
 use Rattle.definition.specs.Refusals.{malformed}
 use Rattle.definition.specs.Bytes.{frame_length, options_bytes, frame_of, line_of}
@@ -46,7 +46,7 @@ bytes_drop (more8 x h r) (suc n) = bytes_drop r n
 
 -- of another length than 24 they are no event
 pub other_length : (b : List ℕ) → (length b ≡ 24 → ⊥) → frame_of b ≡ Bad
-unfolding frame_of if◌then◌else◌
+unfolding frame_of when◌then◌else◌
 other_length b n = rw (ne_eqb (length b) 24 n)
 
 pub sound_length : (b : List ℕ) → malformed (frame_of b) ≡ false → length b ≡ 24
@@ -66,11 +66,11 @@ sound_line b h s = sound_cases b (frame_of b) h refl s
 -- ── Many frames ────────────────────────────────────────────────────────────────────────────────────────────────────────────
 
 pub count_whole : (n : ℕ) → n % 24 ≡ 0 → frames_count n ≡ n / 24
-unfolding frames_count if◌then◌else◌
+unfolding frames_count when◌then◌else◌
 count_whole n h = rw (eq-eqb (n % 24) 0 h) (omega arith)
 
 pub count_part : (n : ℕ) → (n % 24 ≡ 0 → ⊥) → frames_count n ≡ n / 24 + 1
-unfolding frames_count if◌then◌else◌
+unfolding frames_count when◌then◌else◌
 count_part n h = rw (ne_eqb (n % 24) 0 h)
 
 pub length_frames : (n : ℕ) (b : List ℕ) → length (frames_from n b) ≡ n
@@ -84,7 +84,7 @@ length_frames_in b = length_frames (frames_count (length b)) b
 
 -- a piece that is too short is the last of them, and no event
 short_last : (n : ℕ) (b : List ℕ) → length b < 24 * suc n → any? malformed (frames_from (suc n) b) ≡ true
-unfolding frames_from if◌then◌else◌
+unfolding frames_from when◌then◌else◌
 short_last zero b h =
     let l : length (take 24 b) ≡ 24 → ⊥ = λ e. omega (arith, length-take 24 b, e) in
     rw (other_length (take 24 b) l)
@@ -123,7 +123,7 @@ looking_start b n = let z : n - 0 ≡ n = omega arith in record { low = omega ar
 module _ (b : List ℕ) (n i : ℕ) (e : Looking b n i) where
   -- m is the answer of the test of frame i, which was lent as k bytes
   module _ (m : Bool) (k : ℕ) (f : Frame) (h : i < n) (z : k ≡ 24) (q : f ≡ frame_of (take k (drop (i * 24) b))) (a : m ≡ malformed f) where
-    next : any? malformed (frames_from n b) ≡ (if m then true else any? malformed (frames_from (n - (i + 1)) (drop (24 * (i + 1)) b)))
+    next : any? malformed (frames_from n b) ≡ (when m then true else any? malformed (frames_from (n - (i + 1)) (drop (24 * (i + 1)) b)))
     unfolding frames_from
     next =
         let j : n - i ≡ suc (n - (i + 1)) = omega arith in
@@ -133,11 +133,11 @@ module _ (b : List ℕ) (n i : ℕ) (e : Looking b n i) where
         e.same ∙ rw (j, d, a, q, z, y)
 
     pub looking_found : m ≡ true → true ≡ any? malformed (frames_from n b)
-    unfolding if◌then◌else◌
+    unfolding when◌then◌else◌
     looking_found t = sym (next ∙ rw t)
 
     pub looking_more : m ≡ false → Looking b n (i + 1)
-    unfolding if◌then◌else◌
+    unfolding when◌then◌else◌
     looking_more t = record { low = omega arith; same = next ∙ rw t }
 
   pub looking_end : n ≤ i → false ≡ any? malformed (frames_from n b)
@@ -161,7 +161,7 @@ module _ (o : Options) (l : List ℕ) where
 
 -- a frame alone
 pub one_alone : (f : Frame) → any? malformed (f ∷ []) ≡ malformed f
-unfolding if◌then◌else◌
+unfolding when◌then◌else◌
 one_alone f = by_bool (malformed f) (λ t. rw t) (λ t. rw t)
 
 module _ (f : Frame) (l : List ℕ) where

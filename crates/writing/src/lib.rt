@@ -1,5 +1,7 @@
 // A day written into a lent buffer: the line of its options, then a line for each event. All tests come before the first byte, so
 // that a refusal leaves the buffer as it was.
+#![tactic(auto)]
+
 ghost use Rattle.std.specs.Prelude.{◌≡◌, ◌++◌, ◌*◌, ◌≤◌, length, drop};
 ghost use Rattle.definition.specs.Words.{◌<?◌, any?};
 ghost use Rattle.definition.specs.Refusals.{malformed};
@@ -12,7 +14,7 @@ use definition::{DAY_LINE, FRAME, Options, Refusal};
 use printing::print_line;
 
 // How many bytes were written, or why none were.
-#[derive(Drop)]
+#[derive(Clone, Copy)]
 pub enum Written {
     Refused(Refusal),
     Bytes(usize),

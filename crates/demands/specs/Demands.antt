@@ -4,7 +4,7 @@
 -- that is lent, say that the code leaves just that. `Typed p` says of the pool value p what its type in the code says.
 use Rattle.std.specs.Prelude.{◌≡◌, true, List, [], ◌∷◌, ◌++◌, map, ◌⊎◌, ℕ, ◌+◌, ◌*◌, ◌≤◌, length, take, drop}
 use Rattle.std.proofs.Math.Option.{some}
-use Rattle.definition.specs.Words.{if◌then◌else◌}
+use Rattle.definition.specs.Words.{when◌then◌else◌}
 use Rattle.definition.specs.Pool as D
 use Rattle.definition.specs.Pool.{fresh, with_defaults, in_range}
 use Rattle.definition.specs.Records.{record_length}
@@ -64,7 +64,7 @@ Demand1 = (p : Pool) → Typed p → (bytes out : List ℕ) → IsRefused p out 
 -- the definition's answer to a call on a pool value: on the lists that the value stands for, where it keeps the structure rules, which
 -- `keeps` tells exactly; else it is refused, as 1 or 2
 abbrev pub defined : Pool → (bytes out : List ℕ) → R.Result
-defined p bytes out = if keeps p then R.step (lists_of (view_of p)) (frame_of bytes) (length out) else R.Refused (short_or_bad out)
+defined p bytes out = when keeps p then R.step (lists_of (view_of p)) (frame_of bytes) (length out) else R.Refused (short_or_bad out)
 
 -- what the code leaves means that answer: the same refusal with all as it was; or the new lists, and the records, bytes and serials and all
 pub record Demand2For (p : Pool) (bytes out : List ℕ) : Type 0 where

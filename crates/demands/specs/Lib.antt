@@ -1,4 +1,2 @@
 pub mod Demands
-pub mod Calls
-pub mod Days
 pub mod Proved

@@ -1,1 +1,3 @@
-// What was asked for, of the code that runs: the statements (Demands) and their proofs stand in specs/.
+// What was asked for, of the code that runs: the statements (Demands) stand in specs/, their proofs in proofs/.
+
+#![tactic(auto)]

@@ -6,8 +6,8 @@ use Rattle.std.proofs.Math.Bool.{true, false}
 use Rattle.std.proofs.lemmas.Bool.{false≢true}
 use mathlib.Core.List.{List, [], ◌∷◌, ◌++◌, append_assoc, append-nil}
 use Rattle.std.proofs.Math.Option.{Option}
-use Rattle.definition.specs.Words.{if◌then◌else◌, any?}
-use Rattle.definition.specs.Sentences.{if_both}
+use Rattle.definition.specs.Words.{when◌then◌else◌, any?}
+use Rattle.definition.proofs.Sentences.{if_both}
 use Rattle.definition.specs.Refusals.{malformed, causeless}
 use Rattle.definition.specs.Bytes.{day_line_length, frame_bytes, frame_of}
 use Rattle.definition.specs.Writing.{options_line, event_line, event_lines, day_text, Written, unless, write_day}
@@ -77,7 +77,7 @@ unfolding day_text event_lines
 day_none o = sym (append-nil (options_line o))
 
 sound_more : (fs : List Frame) (f : Frame) → any? malformed fs ≡ false → malformed f ≡ false → any? malformed (fs ++ f ∷ []) ≡ false
-unfolding if◌then◌else◌
+unfolding when◌then◌else◌
 sound_more [] f h k = rw k
 sound_more (g ∷ fs) f h k = let s = sound_first g fs h in rw s.0 (sound_more fs f s.1 k)
 
@@ -86,7 +86,7 @@ writable_more e now no_frame w = frame_more e now w no_frame
 writable_more e now (frame_more d t v vs) w = frame_more d t v (writable_more e now vs w)
 
 frame_sound : (f : Frame) → malformed f ≡ false → frame_line f ≡ event_line f
-unfolding if◌then◌else◌
+unfolding when◌then◌else◌
 frame_sound f h = rw h
 
 frame_told : (e : Event) (now : ℕ) → causeless e ≡ false → Writable e now → frame_line (frame_of (frame_bytes e now)) ≡ event_line (Good e now)
@@ -96,7 +96,7 @@ frame_told e now c w = ap frame_line (frame_good e now w) ∙ frame_sound (Good 
 
 -- nothing is written before the first event, and from there on what is written is a day
 abbrev pub day_out : Heading → List Frame → List ℕ
-day_out h fs = if h.is_begun then day_text h.options fs else []
+day_out h fs = when h.is_begun then day_text h.options fs else []
 
 pub record Sound (s : Text) : Type 0 where
   pub place : Fits s.reading.place
@@ -107,7 +107,7 @@ pub record Sound (s : Text) : Type 0 where
   pub out : s.out ≡ day_out s.heading s.frames
 
 pub sound_start : Sound start
-unfolding if◌then◌else◌
+unfolding when◌then◌else◌
 sound_start = record {
   place = fits_start;
   storable = record { maximum = omega arith; minimum = omega arith; connecting = omega arith; idle = omega arith };
@@ -118,15 +118,15 @@ sound_start = record {
 }
 
 -- before the first event other options change nothing that is written
-out_options : (b : Bool) (o p : Options) (fs : List Frame) → (b ≡ true → p ≡ o) → (if b then day_text o fs else []) ≡ (if b then day_text p fs else [])
-unfolding if◌then◌else◌
+out_options : (b : Bool) (o p : Options) (fs : List Frame) → (b ≡ true → p ≡ o) → (when b then day_text o fs else []) ≡ (when b then day_text p fs else [])
+unfolding when◌then◌else◌
 out_options true o p fs k = ap (λ (x : Options). day_text x fs) (sym (k refl))
 out_options false o p fs k = refl
 
 -- the options' line before the first event, and none behind it
-out_closed : (b : Bool) (o : Options) (fs : List Frame) (out : List ℕ) → (b ≡ false → fs ≡ []) → out ≡ (if b then day_text o fs else [])
-    → out ++ (if b then [] else options_line o) ≡ day_text o fs
-unfolding if◌then◌else◌
+out_closed : (b : Bool) (o : Options) (fs : List Frame) (out : List ℕ) → (b ≡ false → fs ≡ []) → out ≡ (when b then day_text o fs else [])
+    → out ++ (when b then [] else options_line o) ≡ day_text o fs
+unfolding when◌then◌else◌
 out_closed true o fs out p q = append-nil out ∙ q
 out_closed false o fs out p q = ap (λ (l : List ℕ). l ++ options_line o) q ∙ day_none o ∙ ap (day_text o) (sym (p refl))
 
@@ -163,7 +163,7 @@ module _ (s : Text) (k : Sound s) where
         sound = ap (any? malformed) i ∙ k.sound;
         first = λ z. i ∙ k.first (sym e ∙ z);
         out = c ∙ append-nil s.out ∙ k.out ∙ out_options h.is_begun h.options x.heading.options s.frames g
-            ∙ ap (λ (b : Bool). if b then day_text x.heading.options s.frames else []) (sym e) ∙ ap (day_out x.heading) (sym i);
+            ∙ ap (λ (b : Bool). when b then day_text x.heading.options s.frames else []) (sym e) ∙ ap (day_out x.heading) (sym i);
       }
 
   told_nothing : Sound (told s (heard h tells.Nothing))
@@ -173,8 +173,8 @@ module _ (s : Text) (k : Sound s) where
   told_mistake x = quiet (told s (heard h (tells.Mistake x))) refl refl refl k.storable refl (λ z. refl)
 
   option_cases : (b given : Bool) (g : Heading) → h.is_begun ≡ b → Storable g.options → g.is_begun ≡ h.is_begun
-      → Sound (told s (if b then heard h (tells.Mistake NoOption) else if given then heard h (tells.Mistake OtherOption) else heard g tells.Nothing))
-  unfolding if◌then◌else◌
+      → Sound (told s (when b then heard h (tells.Mistake NoOption) else when given then heard h (tells.Mistake OtherOption) else heard g tells.Nothing))
+  unfolding when◌then◌else◌
   option_cases true given g q d e = told_mistake NoOption
   option_cases false true g q d e = told_mistake OtherOption
   option_cases false false g q d e = quiet (told s (heard g tells.Nothing)) refl refl refl d e (λ z. absurd (false≢true (sym q ∙ z)))
@@ -183,7 +183,7 @@ module _ (s : Text) (k : Sound s) where
   told_option given g d e = option_cases h.is_begun given g refl d e
 
   told_event : (now : ℕ) (e : Event) → (causeless e ≡ false) × Writable e now → Sound (told s (heard (with_event h) (tells.Event now e)))
-  unfolding if◌then◌else◌
+  unfolding when◌then◌else◌
   told_event now e w =
       let f : Frame = frame_of (frame_bytes e now) in
       record {

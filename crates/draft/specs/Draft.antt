@@ -1,6 +1,6 @@
 -- A day in words, line by line: what its lines tell, and the day that is written.
-use Rattle.std.specs.Prelude.{Bool, true, false, List, [], ◌∷◌, ◌++◌, ℕ, ◌+◌}
-use Rattle.definition.specs.Words.{if◌then◌else◌, ◌=?◌, ◌<?◌}
+use Rattle.std.specs.Prelude.{List, [], ◌∷◌, ◌++◌, ℕ, ◌+◌}
+use Rattle.definition.specs.Words.{when◌then◌else◌, ◌=?◌, ◌<?◌}
 use Rattle.definition.specs.Bytes.{newline}
 use Rattle.definition.specs.declared.Frame.{Frame}
 use Rattle.definition.specs.declared.Frame.TheVariants.{Good}
@@ -32,7 +32,7 @@ faults_told n (tells.Mistake x) = record { line = n; what = x } ∷ []
 
 -- lines are counted from 1, as far as 64 bits go
 abbrev pub next_line : ℕ → ℕ
-next_line n = if n <? most then n + 1 else n
+next_line n = when n <? most then n + 1 else n
 
 -- a text so far: the line under way and its number, the heading, the events, the mistakes, and the bytes of the day
 pub record Text : Type 0 where
@@ -63,7 +63,7 @@ unfoldable pub line_ended : Text → Text
 line_ended s = told s (hears s.heading (says (ended s.reading).place))
 
 unfoldable pub byte_taken : Text → ℕ → Text
-byte_taken s c = if c =? newline then line_ended s else with_reading s (reads s.reading c)
+byte_taken s c = when c =? newline then line_ended s else with_reading s (reads s.reading c)
 
 unfoldable pub text_taken : Text → List ℕ → Text
 text_taken s [] = s

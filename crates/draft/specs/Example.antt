@@ -1,7 +1,7 @@
 -- Two texts worked out: a day in words, and one with mistakes.
 use Rattle.std.specs.Prelude.{◌≡◌, refl, true, false, List, [], ◌∷◌, ◌++◌, ℕ}
 use Prim.Native.String.{String}
-use Rattle.definition.specs.Words.{if◌then◌else◌}
+use Rattle.definition.specs.Words.{when◌then◌else◌}
 use Rattle.definition.specs.Bytes.{newline}
 use Rattle.definition.specs.declared.Event.TheVariants.{CheckOut, CheckIn, MarkAsReady, Succeeded, SucceededForPool}
 use Rattle.definition.specs.declared.Frame.{Frame}
@@ -35,7 +35,7 @@ any_day = lines (
 
 any_day_lem : Tells any_day (record { maximum = 0; minimum = 0; connecting = 0; idle = 0 })
     (Good MarkAsReady 5 ∷ Good (CheckOut 1) 6 ∷ Good (Succeeded 1) 7 ∷ Good (CheckIn 1 false false 8) 9 ∷ Good (CheckOut 2) 9 ∷ Good (CheckIn 1 true false 9) 10 ∷ []) []
-unfolding day_told text_taken byte_taken line_ended reads ended end_word word_takes if◌then◌else◌ digits decimal same number_up_to small_number start_takes naming_named kind_takes id_takes marks_takes let_go_takes opened_takes
+unfolding day_told text_taken byte_taken line_ended reads ended end_word word_takes when◌then◌else◌ digits decimal same number_up_to small_number start_takes naming_named kind_takes id_takes marks_takes let_go_takes opened_takes
 any_day_lem = record { options = refl; frames = refl; mistakes = refl }
 
 -- an event's name that is none, and a check-in that does not say when its user let go; the other lines are told all the same
@@ -51,5 +51,5 @@ mistaken_day = lines (
 
 mistaken_day_lem : Tells mistaken_day (record { maximum = 2; minimum = 0; connecting = 0; idle = 0 }) (Good (CheckOut 1) 6 ∷ Good (SucceededForPool 1 6) 7 ∷ [])
     (record { line = 3; what = Kind } ∷ record { line = 6; what = MarkOrLetGo } ∷ [])
-unfolding day_told text_taken byte_taken line_ended reads ended end_word word_takes if◌then◌else◌ digits decimal same number_up_to small_number option_named start_takes value_takes naming_named kind_takes id_takes marks_takes let_go_takes opened_takes opened_at_takes
+unfolding day_told text_taken byte_taken line_ended reads ended end_word word_takes when◌then◌else◌ digits decimal same number_up_to small_number option_named start_takes value_takes naming_named kind_takes id_takes marks_takes let_go_takes opened_takes opened_at_takes
 mistaken_day_lem = record { options = refl; frames = refl; mistakes = refl }

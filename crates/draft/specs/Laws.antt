@@ -1,10 +1,10 @@
 -- One law for each exit, over variables.
-use Rattle.std.specs.Prelude.{◌≡◌, refl, Bool, true, false, ℕ, zero, suc, ◌+◌, ◌-◌, ◌*◌, ◌≤◌, ◌<◌, length, take, drop, get_or}
-use Rattle.std.proofs.Common.{sym, ◌∙◌, arith, le-ltb, eq-eqb, eqb-true, length-append, length-drop, length-take, take_at, take-add, take-take, take_all}
+use Rattle.std.specs.Prelude.{◌≡◌, refl, true, false, ℕ, zero, suc, ◌+◌, ◌-◌, ◌≤◌, ◌<◌, length, take, drop, get_or}
+use Rattle.std.proofs.Common.{sym, ◌∙◌, arith, eq-eqb, eqb-true, length-append, length-drop, length-take, take-add, take-take}
 use Rattle.std.proofs.Math.Path.{ap, subst}
 use Rattle.std.proofs.lemmas.Bool.{false≢true}
 use mathlib.Core.List.{List, [], ◌∷◌, ◌++◌, append_assoc, append-nil}
-use Rattle.definition.specs.Words.{if◌then◌else◌, ◌<?◌, ◌=?◌, any?}
+use Rattle.definition.specs.Words.{when◌then◌else◌, ◌=?◌}
 use Rattle.definition.specs.Booleans.{by_bool, by_eq}
 use Rattle.definition.specs.Bytes.{newline}
 use Rattle.newlines.specs.Newlines.{line_len, len_true, len_false, len_positive, len_low}
@@ -17,13 +17,13 @@ use Rattle.heading.specs.declared.Told.TheVariants as tells
 use Rattle.heading.specs.Heading.{blank, hears}
 use Rattle.wording.specs.declared.Line.{Line}
 use Rattle.wording.specs.Wording.{Reading, begun, reads, read_all, ended}
-use Rattle.wording.specs.Held.{Held, view_of, Stands}
+use Rattle.wording.specs.Held.{view_of, Stands}
 use Rattle.draft.specs.declared.Draft.{Draft}
 use Rattle.draft.specs.declared.Step.{Step}
 use Rattle.laying.specs.Laying.{first_line, written, line_room, Lays}
 use Rattle.laying.specs.Laws.{first_length, written_length, lays_nothing, lays_both, lays_length}
-use Rattle.draft.specs.Draft.{Text, start, with_reading, told, Fault, faults_told, next_line, line_ended, byte_taken, text_taken, closed}
-use Rattle.draft.specs.Steps.{mistake?, text_of, end_room, paused, Ready, Begins, Leaves, Stepped, EndsLine, TakesLine, GoesOn, Finishes}
+use Rattle.draft.specs.Draft.{Text, with_reading, told, Fault, faults_told, next_line, line_ended, byte_taken, text_taken, closed}
+use Rattle.draft.specs.Steps.{mistake?, text_of, paused, Ready, Begins, Leaves, Stepped, EndsLine, TakesLine, GoesOn, Finishes}
 
 -- ── A line ─────────────────────────────────────────────────────────────────────────────────────────────────────────────────
 
@@ -59,13 +59,13 @@ ended_length d = written_length d.heading (hears d.heading (says (ended (view_of
 -- ── A text ─────────────────────────────────────────────────────────────────────────────────────────────────────────────────
 
 byte_part : (s : Text) (c : ℕ) → (c =? newline) ≡ false → byte_taken s c ≡ with_reading s (reads s.reading c)
-unfolding if◌then◌else◌ byte_taken
+unfolding when◌then◌else◌ byte_taken
 byte_part s c b = rw b
 
 -- the first line of a text, with its newline
 line_newline : (s : Text) (c : ℕ) (t : List ℕ) (m : ℕ) → (c =? newline) ≡ true → 1 ≡ suc m
     → text_taken s (take (suc m) (c ∷ t)) ≡ line_ended (with_reading s (read_all s.reading (take m (c ∷ t))))
-unfolding if◌then◌else◌ text_taken byte_taken read_all
+unfolding when◌then◌else◌ text_taken byte_taken read_all
 line_newline s c t zero b e = rw b
 line_newline s c t (suc m) b e = absurd (omega arith)
 
@@ -73,14 +73,14 @@ line_more : (s : Text) (c : ℕ) (t : List ℕ) (m : ℕ)
     → ((x : Text) (k : ℕ) → line_len t ≡ suc k → get_or t k 0 ≡ newline → text_taken x (take (suc k) t) ≡ line_ended (with_reading x (read_all x.reading (take k t))))
     → (c =? newline) ≡ false → suc (line_len t) ≡ suc m → get_or (c ∷ t) m 0 ≡ newline
     → text_taken s (take (suc m) (c ∷ t)) ≡ line_ended (with_reading s (read_all s.reading (take m (c ∷ t))))
-unfolding if◌then◌else◌ text_taken byte_taken read_all
+unfolding when◌then◌else◌ text_taken byte_taken read_all
 line_more s c t zero ih b e g = absurd (false≢true (sym b ∙ eq-eqb c newline g))
 line_more s c t (suc k) ih b e g =
     ap (λ (x : Text). text_taken x (take (suc k) t)) (byte_part s c b) ∙ ih (with_reading s (reads s.reading c)) k (omega (arith, e)) g
 
 taken_line : (s : Text) (t : List ℕ) (m : ℕ) → line_len t ≡ suc m → get_or t m 0 ≡ newline
     → text_taken s (take (suc m) t) ≡ line_ended (with_reading s (read_all s.reading (take m t)))
-unfolding line_len if◌then◌else◌
+unfolding line_len when◌then◌else◌
 taken_line s [] m e g = absurd (omega (arith, e))
 taken_line s (c ∷ t) m e g =
     by_bool (c =? newline)
@@ -92,7 +92,7 @@ clean_more : (s : Text) (c : ℕ) (t : List ℕ) (n : ℕ)
     → ((x : Text) → (get_or t (line_len t - 1) 0 ≡ newline → ⊥) → text_taken x (take (line_len t) t) ≡ with_reading x (read_all x.reading (take (line_len t) t)))
     → (c =? newline) ≡ false → n ≡ line_len t → (get_or (c ∷ t) n 0 ≡ newline → ⊥)
     → text_taken s (take (suc (line_len t)) (c ∷ t)) ≡ with_reading s (read_all s.reading (take (suc (line_len t)) (c ∷ t)))
-unfolding if◌then◌else◌ text_taken byte_taken read_all line_len
+unfolding when◌then◌else◌ text_taken byte_taken read_all line_len
 clean_more s c [] n ih b e g = rw b
 clean_more s c (d ∷ t) zero ih b e g = absurd (omega (arith, e, len_positive (d ∷ t) (omega arith)))
 clean_more s c (d ∷ t) (suc k) ih b e g =
@@ -184,7 +184,7 @@ module _ (p : List ℕ) (m : List Fault) where
       subst (λ (x : Heard). Ahead p m (told s x) (told b k)) (sym e) (ahead_told s b k a)
 
   ahead_byte : (s b : Text) (c : ℕ) → Ahead p m s b → Ahead p m (byte_taken s c) (byte_taken b c)
-  unfolding byte_taken if◌then◌else◌
+  unfolding byte_taken when◌then◌else◌
   ahead_byte s b c a =
       by_bool (c =? newline) (λ t. rw t (ahead_ended s b a))
       (λ t. rw t (record { reading = ap (λ (r : Reading). reads r c) a.reading; line = a.line; heading = a.heading; mistakes = a.mistakes; out = a.out }))

@@ -1,11 +1,9 @@
 -- What the code says of a text in words: the text so far, and the bytes laid.
 use Rattle.std.specs.Prelude.{◌≡◌, Bool, true, false, List, [], ℕ, ◌*◌, ◌≤◌, ◌<◌, length, take}
 use Rattle.definition.specs.Bytes.{day_line_length}
-use Rattle.heading.specs.declared.Heading.{Heading}
 use Rattle.heading.specs.declared.Told.{Told}
 use Rattle.heading.specs.declared.Told.TheVariants as tells
 use Rattle.newlines.specs.Newlines.{line_len}
-use Rattle.wording.specs.declared.Line.{Line}
 use Rattle.wording.specs.Held.{Held, view_of}
 use Rattle.draft.specs.declared.Draft.{Draft}
 use Rattle.draft.specs.declared.Step.{Step}

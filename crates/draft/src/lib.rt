@@ -1,4 +1,6 @@
 // A day in words under way: its text is taken in pieces of any cut, and what its lines tell is written.
+#![tactic(auto)]
+
 ghost use Rattle.std.specs.Prelude.{◌≡◌, ◌≤◌, ◌<◌, length};
 ghost use Rattle.laying.specs.Laying.{line_room};
 ghost use Rattle.draft.specs.Draft.{next_line};
@@ -12,7 +14,7 @@ use wording::Line;
 const LINE_ROOM: usize = 2 * DAY_LINE;
 
 // A day under way: the line under way and its number, and the heading.
-#[derive(Drop)]
+#[derive(Clone, Copy)]
 pub struct Draft {
     pub line: Line,
     pub number: u64,
@@ -20,7 +22,7 @@ pub struct Draft {
 }
 
 // What is left, how many bytes were read and written, and what was told, with the line that told it and its number.
-#[derive(Drop)]
+#[derive(Clone, Copy)]
 pub struct Step {
     pub draft: Draft,
     pub read: usize,

@@ -3,7 +3,7 @@ use Rattle.std.specs.Prelude.{◌≡◌, refl, Bool, true, false, List, ◌++◌
 use Rattle.std.proofs.Common.{sym, subst, ◌∙◌, arith}
 use Rattle.std.proofs.Math.Path.{ap}
 use Rattle.std.proofs.Math.Option.{Option, none, some}
-use Rattle.definition.specs.Words.{if◌then◌else◌}
+use Rattle.definition.specs.Words.{when◌then◌else◌}
 use Rattle.definition.specs.Pool.{with_defaults, in_range}
 use Rattle.definition.specs.Records.{log_line_length}
 use Rattle.definition.specs.Bytes.{record_bytes}
@@ -14,7 +14,7 @@ use Rattle.definition.specs.declared.Refusal.{Refusal}
 use Rattle.definition.specs.declared.Refusal.TheVariants.{Malformed, OptionsOutOfRange}
 use Rattle.slots.specs.View.{SlotPool}
 use Rattle.refinement.specs.Alike.{fresh_head, fresh_slots}
-use Rattle.refinement.specs.Formed.{over_blank, fresh_parts, fresh_formed}
+use Rattle.refinement.proofs.Formed.{over_blank, fresh_parts, fresh_formed}
 use Rattle.first_line.specs.declared.Pace.{Pace}
 use Rattle.first_line.specs.Took.{Took, quiet}
 use Rattle.first_line.specs.OnSlots.{Play, refused_line, options, ready, badly}
@@ -36,12 +36,12 @@ module _ (s : Play) where
   options_malformed e = ap (options s) e
 
   pub options_out : {x : Option Options} {o : Options} → x ≡ some o → false ≡ in_range (with_defaults o) → options s x ≡ badly s OptionsOutOfRange
-  unfolding if◌then◌else◌
-  options_out {o = o} e f = ap (options s) e ∙ ap (λ (b : Bool). if b then ready s (with_defaults o) else badly s OptionsOutOfRange) (sym f)
+  unfolding when◌then◌else◌
+  options_out {o = o} e f = ap (options s) e ∙ ap (λ (b : Bool). when b then ready s (with_defaults o) else badly s OptionsOutOfRange) (sym f)
 
   pub options_made : {x : Option Options} {o : Options} → x ≡ some o → true ≡ in_range (with_defaults o) → options s x ≡ ready s (with_defaults o)
-  unfolding if◌then◌else◌
-  options_made {o = o} e f = ap (options s) e ∙ ap (λ (b : Bool). if b then ready s (with_defaults o) else badly s OptionsOutOfRange) (sym f)
+  unfolding when◌then◌else◌
+  options_made {o = o} e f = ap (options s) e ∙ ap (λ (b : Bool). when b then ready s (with_defaults o) else badly s OptionsOutOfRange) (sym f)
 
 pub lined_bad : (r : Pace) (p : SlotPool) (l b a : List ℕ) (r' : Pace) (why : Refusal) → r' ≡ ended_pace r → a ≡ refused_line why 1 ++ drop log_line_length b
     → Lined (badly (play_of r p l) why) b a (play_of r' p l) log_line_length

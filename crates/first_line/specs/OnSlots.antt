@@ -1,7 +1,7 @@
 -- The state on slots that lines go on from, and what the options line makes of it, byte for byte.
 use Rattle.std.specs.Prelude.{List, ℕ}
 use Rattle.std.proofs.Math.Option.{Option, none, some}
-use Rattle.definition.specs.Words.{if◌then◌else◌}
+use Rattle.definition.specs.Words.{when◌then◌else◌}
 use Rattle.definition.specs.Pool.{with_defaults, in_range}
 use Rattle.definition.specs.Bytes.{line_of}
 use Rattle.definition.specs.Day.{RefusedLine, entry_bytes}
@@ -34,7 +34,7 @@ module _ (s : Play) where
   ready o = quiet (record { phase = Going; used = s.used; budget = s.budget; pool = fresh_slots o; scratch = s.scratch })
 
   abbrev pub made : Options → Took Play ℕ
-  made o = if in_range o then ready o else badly OptionsOutOfRange
+  made o = when in_range o then ready o else badly OptionsOutOfRange
 
   abbrev pub options : Option Options → Took Play ℕ
   options none = badly Malformed

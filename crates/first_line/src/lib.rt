@@ -1,4 +1,6 @@
 // Where a run is, and its first line: options that make the pool, or end the run.
+#![tactic(auto)]
+
 ghost use Rattle.std.specs.Prelude.{◌≡◌, ◌++◌, ◌≤◌, length, drop};
 ghost use Rattle.definition.specs.Records.{log_line_length};
 ghost use Rattle.definition.specs.Bytes.{options_of_line};
@@ -11,7 +13,7 @@ use definition::{LINE, QUEUE, Refusal, SLOTS};
 use reading::Given;
 use slots::{Head, NUMBERS, Numbers, STATES, States, Times, Waiters};
 
-#[derive(Drop)]
+#[derive(Clone, Copy)]
 pub enum Phase {
     First,
     Going,
@@ -19,7 +21,7 @@ pub enum Phase {
 }
 
 // Where a run is: before its options line, going, or ended by bad options; and the frames that it has used, and may use.
-#[derive(Drop)]
+#[derive(Clone, Copy)]
 pub struct Pace {
     pub phase: Phase,
     pub used: u64,
@@ -27,7 +29,7 @@ pub struct Pace {
 }
 
 // What a line leaves beside the lent parts, and how much of the output was written.
-#[derive(Drop)]
+#[derive(Clone, Copy)]
 pub struct Taken {
     pub pace: Pace,
     pub head: Head,

@@ -1,64 +1,10 @@
 -- One law for each exit of a frame's line: what the code knows there gives the line's answer.
-use Rattle.std.specs.Prelude.{◌≡◌, refl, List, ◌++◌, ℕ, ◌+◌, ◌*◌, ◌%◌, ◌≤◌, length}
-use Rattle.std.proofs.Math.Path.{sym, ap, subst}
-use Rattle.std.proofs.Common.{◌∙◌, arith}
-use Rattle.std.proofs.Math.ListN.{drop}
-use Rattle.definition.specs.Records.{log_line_length, fields}
-use Rattle.definition.specs.Refusals.{refusal_no, enough_room, room_records}
+use Rattle.std.specs.Prelude.{List, ℕ}
+use Rattle.definition.specs.Records.{fields}
+use Rattle.definition.specs.Refusals.{refusal_no}
 use Rattle.definition.specs.Bytes.{record_bytes, line_of}
-use Rattle.definition.specs.Day.{entry_bytes}
-use Rattle.definition.specs.declared.Frame.{Frame}
 use Rattle.definition.specs.declared.Refusal.{Refusal}
-use Rattle.slots.specs.View.{SlotPool}
-use Rattle.slots.specs.Call.{World, world, call}
-use Rattle.slots.specs.declared.Outcome.{Outcome}
-use Rattle.slots.specs.declared.Outcome.TheVariants.{Refused, Accepted}
-use Rattle.refinement.specs.Stands.{Formed}
-use Rattle.refinement.specs.Formed.{call_formed}
-use Rattle.refinement.specs.RecordRoom.{FewIn, call_few}
-use Rattle.printing.specs.Printed.{printed, length_printed}
-use Rattle.first_line.specs.declared.Pace.{Pace}
-use Rattle.first_line.specs.Code.{play_of, Lined}
-use Rattle.first_line.specs.Exits.{length_refused}
-use Rattle.frame_lines.specs.OnSlots.{said_of, answered}
-use Rattle.frame_lines.specs.Code.{counted_pace, Said}
 
 -- the bytes that the refusal of a line is printed as
 abbrev pub refused_bytes : Refusal → ℕ → List ℕ
 refused_bytes r line = line_of (record_bytes 0 (fields 32 (refusal_no r) line 0))
-
-pub few_records : (x : Outcome) (n : ℕ) → x ≡ Accepted n → FewIn x → n ≤ room_records
-few_records x n e h = subst FewIn e h
-
-module _ (x : Outcome) (l : List ℕ) (line : ℕ) (b a : List ℕ) where
-  pub said_refused : (r : Refusal) (m : ℕ) → x ≡ Refused r → m ≡ line % 4294967296 → a ≡ refused_bytes r m ++ drop log_line_length b
-      → Said (said_of x l line) b a log_line_length
-  unfolding entry_bytes
-  said_refused r m k q e =
-      subst (λ (y : Outcome). Said (said_of y l line) b a log_line_length) (sym k)
-      (record {
-        written = sym (length_refused r line);
-        few = omega arith;
-        laid = e ∙ ap (λ (z : ℕ). refused_bytes r z ++ drop log_line_length b) q;
-      })
-
-  pub said_records : (n : ℕ) → x ≡ Accepted n → FewIn x → enough_room ≤ length l → a ≡ printed n l ++ drop (log_line_length * n) b
-      → Said (said_of x l line) b a (n * log_line_length)
-  said_records n k h m e =
-      let few : n ≤ room_records = few_records x n k h in
-      let long : length (printed n l) ≡ log_line_length * n = length_printed 16 n l (omega arith) in
-      let s : n * log_line_length ≡ log_line_length * n = omega arith in
-      subst (λ (y : Outcome). Said (said_of y l line) b a (n * log_line_length)) (sym k)
-      (record { written = omega arith; few = omega arith; laid = e ∙ ap (λ (j : ℕ). printed n l ++ drop j b) (sym s) })
-
-module _ (p p' : SlotPool) (l l' : List ℕ) (f : Frame) (c : Outcome) (e : world p' l' c ≡ call p l f) (h : Formed p) where
-  pub call_fits : FewIn c
-  call_fits = subst (λ (w : World). FewIn w.outcome) (sym e) (call_few p h.lists l f h.stands)
-
-  pub frame_said : (g : Frame) (r r' : Pace) (b a : List ℕ) (n : ℕ) → f ≡ g → r' ≡ counted_pace r → Said (said_of c l' (r.used + 2)) b a n
-      → Lined (answered (play_of r p l) (call p l g)) b a (play_of r' p' l') n
-  frame_said g r r' b a n z q s =
-      let formed : Formed p' = subst (λ (w : World). Formed w.pool) (sym e) (call_formed p l f h) in
-      subst (λ (x : Pace). Lined (answered (play_of r p l) (call p l g)) b a (play_of x p' l') n) (sym q)
-      (subst (λ (w : World). Lined (answered (play_of r p l) w) b a (play_of (counted_pace r) p' l') n) (e ∙ ap (call p l) z)
-      (record { state = refl; written = s.written; few = s.few; laid = s.laid; able = formed }))

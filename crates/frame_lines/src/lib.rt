@@ -1,4 +1,6 @@
 // A frame's line: the call that it makes, and what that says in the log.
+#![tactic(auto)]
+
 ghost use Rattle.std.specs.Prelude.{◌≡◌, ◌+◌, ◌%◌, ◌≤◌, ◌<◌, length};
 ghost use Rattle.definition.specs.Refusals.{enough_room};
 ghost use Rattle.definition.specs.Bytes.{frame_of_line};

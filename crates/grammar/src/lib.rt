@@ -1,4 +1,6 @@
 // A line of a day in words, read word by word: where the reading stands behind one word more, and what a whole line says.
+#![tactic(auto)]
+
 ghost use Rattle.std.specs.Prelude.{◌≡◌};
 ghost use Rattle.notation.specs.Notation.{expected_at, start_takes, takes, says};
 

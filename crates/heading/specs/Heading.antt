@@ -1,6 +1,6 @@
 -- The heading of a day in words: which options its lines have given, and whether an event has come.
 use Rattle.std.specs.Prelude.{Bool, true, false, ℕ}
-use Rattle.definition.specs.Words.{if◌then◌else◌}
+use Rattle.definition.specs.Words.{when◌then◌else◌}
 use Rattle.notation.specs.declared.Setting.{Setting}
 use Rattle.notation.specs.declared.Setting.TheVariants.{Maximum, Minimum, MaxConnecting}
 use Rattle.notation.specs.declared.Expected.TheVariants.{NoOption, OtherOption}
@@ -50,8 +50,8 @@ heard h t = record { heading = h; told = t }
 -- options stand before the first event, each once
 abbrev pub option : Heading → (given : Bool) → Heading → Heard
 option h given h' =
-    if h.is_begun then heard h (tells.Mistake NoOption) else
-    if given then heard h (tells.Mistake OtherOption) else
+    when h.is_begun then heard h (tells.Mistake NoOption) else
+    when given then heard h (tells.Mistake OtherOption) else
     heard h' tells.Nothing
 
 abbrev pub hears : Heading → Said → Heard

@@ -1,4 +1,6 @@
 // The heading of a day in words: its options so far, and what a line more leaves and tells.
+#![tactic(auto)]
+
 ghost use Rattle.std.specs.Prelude.{◌≡◌};
 ghost use Rattle.heading.specs.Heading.{blank, has, with_setting, with_idle, with_event, option, hears};
 
@@ -6,7 +8,7 @@ use definition::{Event, Options};
 use notation::{Expected, Said, Setting};
 
 // The options so far, which of them were given, and whether an event has come.
-#[derive(Drop)]
+#[derive(Clone, Copy)]
 pub struct Heading {
     pub options: Options,
     pub has_maximum: bool,
@@ -17,7 +19,7 @@ pub struct Heading {
 }
 
 // What a line tells.
-#[derive(Drop)]
+#[derive(Clone, Copy)]
 pub enum Told {
     Nothing,
     Event(u64, Event),
@@ -94,7 +96,7 @@ fn with_event(h: Heading) -> Heading
 }
 
 // What a line leaves, and what it tells.
-#[derive(Drop)]
+#[derive(Clone, Copy)]
 pub struct Heard {
     pub heading: Heading,
     pub told: Told,

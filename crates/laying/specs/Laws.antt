@@ -2,7 +2,7 @@
 use Rattle.std.specs.Prelude.{◌≡◌, refl, Bool, true, false, ℕ, ◌+◌, ◌-◌, ◌≤◌, ◌<◌, length, take, drop}
 use Rattle.std.proofs.Common.{sym, ap, subst, ◌∙◌, arith, le-ltb, length-append, length-drop, length-take}
 use mathlib.Core.List.{List, [], ◌++◌}
-use Rattle.definition.specs.Words.{if◌then◌else◌}
+use Rattle.definition.specs.Words.{when◌then◌else◌}
 use Rattle.definition.specs.Refusals.{first, malformed}
 use Rattle.definition.specs.Bytes.{frame_bytes, frame_of}
 use Rattle.definition.specs.Writing as Definition
@@ -19,16 +19,16 @@ use Rattle.heading.specs.declared.Told.{Told}
 use Rattle.heading.specs.declared.Told.TheVariants as tells
 use Rattle.laying.specs.Laying.{first_line, frame_line, written, Lays, bytes_in}
 
-first_cases : (b : Bool) (l : List ℕ) → length l ≡ 49 → length (if b then [] else l) ≤ 49
-unfolding if◌then◌else◌
+first_cases : (b : Bool) (l : List ℕ) → length l ≡ 49 → length (when b then [] else l) ≤ 49
+unfolding when◌then◌else◌
 first_cases true l e = omega arith
 first_cases false l e = omega arith
 
 pub first_length : (h : Heading) → length (first_line h) ≤ 49
 first_length h = first_cases h.is_begun (options_line h.options) (length_options h.options)
 
-frame_cases : (f : Frame) (b : Bool) → malformed f ≡ b → length (if b then [] else event_line f) ≤ 49
-unfolding if◌then◌else◌
+frame_cases : (f : Frame) (b : Bool) → malformed f ≡ b → length (when b then [] else event_line f) ≤ 49
+unfolding when◌then◌else◌
 frame_cases f true e = omega arith
 frame_cases f false e = omega (arith, length_event f e)
 
@@ -56,22 +56,22 @@ writes_lays (NotWritten r) l x l' k w e = record { count = e ∙ ap bytes_in w.a
 writes_lays (Definition.Written t) l x l' k w e = record { count = e ∙ ap bytes_in w.answer; out = w.out }
 
 options_text : (n : ℕ) (o : Options) → 49 ≤ n → text_in (write_options n o) ≡ options_line o
-unfolding text_in write_options writing_tests first if◌then◌else◌
+unfolding text_in write_options writing_tests first when◌then◌else◌
 options_text n o h = rw (le-ltb n 49 h)
 
-event_cases : (n : ℕ) (f : Frame) (b : Bool) → malformed f ≡ b → 49 ≤ n → text_in (write_event n f) ≡ (if b then [] else event_line f)
-unfolding text_in write_event writing_tests first if◌then◌else◌
+event_cases : (n : ℕ) (f : Frame) (b : Bool) → malformed f ≡ b → 49 ≤ n → text_in (write_event n f) ≡ (when b then [] else event_line f)
+unfolding text_in write_event writing_tests first when◌then◌else◌
 event_cases n f true e h = rw (le-ltb n 49 h, e)
 event_cases n f false e h = rw (le-ltb n 49 h, e)
 
 module _ (h : Heading) (l : List ℕ) where
   pub first_none : h.is_begun ≡ true → Lays (first_line h) l 0 l
-  unfolding if◌then◌else◌
+  unfolding when◌then◌else◌
   first_none e = rw e (lays_nothing l)
 
   pub first_laid : (r : Written) (l' : List ℕ) (k : ℕ) → h.is_begun ≡ false → 49 ≤ length l → Writes (write_options (length l) h.options) l r l' → k ≡ bytes_in r
       → Lays (first_line h) l k l'
-  unfolding if◌then◌else◌
+  unfolding when◌then◌else◌
   first_laid r l' k e g w n =
       rw e (subst (λ (t : List ℕ). Lays t l k l') (options_text (length l) h.options g) (writes_lays (write_options (length l) h.options) l r l' k w n))
 

@@ -1,6 +1,6 @@
 -- What is written for what a line of words tells.
 use Rattle.std.specs.Prelude.{◌≡◌, List, [], ◌++◌, ℕ, ◌*◌, length, drop}
-use Rattle.definition.specs.Words.{if◌then◌else◌}
+use Rattle.definition.specs.Words.{when◌then◌else◌}
 use Rattle.definition.specs.Refusals.{malformed}
 use Rattle.definition.specs.Bytes.{day_line_length, frame_bytes, frame_of}
 use Rattle.definition.specs.Writing.{options_line, event_line}
@@ -13,11 +13,11 @@ use Rattle.heading.specs.declared.Told.TheVariants as tells
 
 -- the options' line goes out with the first event, since none can follow it
 abbrev pub first_line : Heading → List ℕ
-first_line h = if h.is_begun then [] else options_line h.options
+first_line h = when h.is_begun then [] else options_line h.options
 
 -- what a writer makes of a frame; that it refuses none of these stands in Days
 abbrev pub frame_line : Frame → List ℕ
-frame_line f = if malformed f then [] else event_line f
+frame_line f = when malformed f then [] else event_line f
 
 abbrev pub written : Heading → Told → List ℕ
 written h tells.Nothing = []

@@ -1,4 +1,6 @@
 // The lines that are written for what a line of words tells, by the writer.
+#![tactic(auto)]
+
 ghost use Rattle.std.specs.Prelude.{◌≡◌, ◌≤◌, length};
 ghost use Rattle.definition.specs.Bytes.{frame_bytes, frame_of};
 ghost use Rattle.laying.specs.Laying.{first_line, frame_line, written, line_room, Lays, bytes_in};

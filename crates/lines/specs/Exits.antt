@@ -2,7 +2,7 @@
 use Rattle.std.specs.Prelude.{◌≡◌, Bool, List, ◌++◌, ℕ, ◌≤◌, ◌<◌, drop}
 use Rattle.std.proofs.Common.{sym, lt-ltb, le-ltb}
 use Rattle.std.proofs.Math.Path.{subst}
-use Rattle.definition.specs.Words.{if◌then◌else◌}
+use Rattle.definition.specs.Words.{when◌then◌else◌}
 use Rattle.definition.specs.Records.{log_line_length}
 use Rattle.definition.specs.Bytes.{frame_of_line, options_of_line}
 use Rattle.definition.specs.declared.Refusal.TheVariants.{Malformed}
@@ -30,17 +30,17 @@ module _ (r : Pace) (p : SlotPool) (sc l b : List ℕ) where
     pub line_going_lem : (sc' : List ℕ) → r.phase ≡ Going → r.used < r.budget
         → Lined (answered (play_of r p sc) (call p sc (frame_of_line l))) b a (play_of r' p' sc') n
         → Lined (line_slots (play_of r p sc) l) b a (play_of r' p' sc') n
-    unfolding line_slots if◌then◌else◌
+    unfolding line_slots when◌then◌else◌
     line_going_lem sc' e h k =
         subst (λ (g : Phase). Lined (line_in (play_of r p sc) g l) b a (play_of r' p' sc') n) (sym e)
-        (subst (λ (t : Bool). Lined (if t then answered (play_of r p sc) (call p sc (frame_of_line l)) else quiet (play_of r p sc)) b a (play_of r' p' sc') n)
+        (subst (λ (t : Bool). Lined (when t then answered (play_of r p sc) (call p sc (frame_of_line l)) else quiet (play_of r p sc)) b a (play_of r' p' sc') n)
         (sym (lt-ltb r.used r.budget h)) k)
 
   pub line_spent : r.phase ≡ Going → r.budget ≤ r.used → Able r.phase p → Lined (line_slots (play_of r p sc) l) b b (play_of r p sc) 0
-  unfolding line_slots if◌then◌else◌
+  unfolding line_slots when◌then◌else◌
   line_spent e h k =
       subst (λ (g : Phase). Lined (line_in (play_of r p sc) g l) b b (play_of r p sc) 0) (sym e)
-      (subst (λ (t : Bool). Lined (if t then answered (play_of r p sc) (call p sc (frame_of_line l)) else quiet (play_of r p sc)) b b (play_of r p sc) 0)
+      (subst (λ (t : Bool). Lined (when t then answered (play_of r p sc) (call p sc (frame_of_line l)) else quiet (play_of r p sc)) b b (play_of r p sc) 0)
       (sym (le-ltb r.used r.budget h)) (lined_quiet (play_of r p sc) b k))
 
   pub line_ended_lem : r.phase ≡ Ended → Able r.phase p → Lined (line_slots (play_of r p sc) l) b b (play_of r p sc) 0

@@ -1,6 +1,6 @@
 -- The machine on slots: what the code does with a line, byte for byte.
 use Rattle.std.specs.Prelude.{List, ℕ}
-use Rattle.definition.specs.Words.{if◌then◌else◌, ◌<?◌}
+use Rattle.definition.specs.Words.{when◌then◌else◌, ◌<?◌}
 use Rattle.definition.specs.Bytes.{frame_of_line, options_of_line}
 use Rattle.definition.specs.declared.Refusal.TheVariants.{Malformed}
 use Rattle.slots.specs.Call.{call}
@@ -14,7 +14,7 @@ use Rattle.lines.specs.Machine.{Machine}
 module _ (s : Play) where
   abbrev pub line_in : Phase → List ℕ → Took Play ℕ
   line_in First l = options s (options_of_line l)
-  line_in Going l = if s.used <? s.budget then answered s (call s.pool s.scratch (frame_of_line l)) else quiet s
+  line_in Going l = when s.used <? s.budget then answered s (call s.pool s.scratch (frame_of_line l)) else quiet s
   line_in Ended l = quiet s
 
   abbrev pub last_in : Phase → Took Play ℕ

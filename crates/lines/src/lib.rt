@@ -1,4 +1,6 @@
 // One line of a day: what it changes in the pool, and what it says in the log.
+#![tactic(auto)]
+
 ghost use Rattle.std.specs.Prelude.{◌≤◌, length};
 ghost use Rattle.definition.specs.Refusals.{enough_room};
 ghost use Rattle.slots.specs.View.{given, before, after};
@@ -53,7 +55,7 @@ pub fn take_line(
 }
 
 // What the text's end leaves, and how much of the output was written.
-#[derive(Drop)]
+#[derive(Clone, Copy)]
 pub struct Ending {
     pub pace: Pace,
     pub written: usize,

@@ -1,4 +1,6 @@
 // The names that a line of words may have: of options, and of events.
+#![tactic(auto)]
+
 ghost use Rattle.std.specs.Prelude.{◌≡◌};
 ghost use Rattle.notation.specs.Notation.{option_named, naming_named, kind_takes};
 

@@ -2,13 +2,13 @@
 use Rattle.std.specs.Prelude.{◌≡◌, refl, Bool, true, false, List, [], ◌∷◌, ℕ, zero, suc, ◌+◌, ◌-◌, ◌≤◌, ◌<◌, length, take, drop, get_or}
 use Rattle.std.proofs.Common.{sym, ap, ◌∙◌, arith, add-one, eq-eqb, ne_eqb, length-take, length-drop, drop_of_length-le, drop-cons, take_all, get_or-drop, get_or-take}
 use Rattle.std.proofs.lemmas.Bool.{false≢true}
-use Rattle.definition.specs.Words.{if◌then◌else◌, ◌=?◌}
+use Rattle.definition.specs.Words.{when◌then◌else◌, ◌=?◌}
 use Rattle.definition.specs.Bytes.{newline}
 
 -- how long the first line is, with its newline
 unfoldable pub line_len : List ℕ → ℕ
 line_len [] = 0
-line_len (c ∷ t) = if c =? newline then 1 else suc (line_len t)
+line_len (c ∷ t) = when c =? newline then 1 else suc (line_len t)
 
 -- whether a piece ends with a newline
 unfoldable pub ends : List ℕ → Bool
@@ -19,7 +19,7 @@ ends (c ∷ d ∷ t) = ends (d ∷ t)
 -- no newline among these
 unfoldable pub clean : List ℕ → Bool
 clean [] = true
-clean (c ∷ t) = if c =? newline then false else clean t
+clean (c ∷ t) = when c =? newline then false else clean t
 
 pub ends_last : (p : List ℕ) → 0 < length p → ends p ≡ (get_or p (length p - 1) 0 =? newline)
 unfolding ends
@@ -29,16 +29,16 @@ ends_last (c ∷ d ∷ t) h =
     let n : length (c ∷ d ∷ t) - 1 ≡ suc (length (d ∷ t) - 1) = omega arith in
     ends_last (d ∷ t) (omega arith) ∙ rw n
 
-len_step : (l : List ℕ) (i : ℕ) → i < length l → line_len (drop i l) ≡ (if get_or l i 0 =? newline then 1 else suc (line_len (drop (i + 1) l)))
+len_step : (l : List ℕ) (i : ℕ) → i < length l → line_len (drop i l) ≡ (when get_or l i 0 =? newline then 1 else suc (line_len (drop (i + 1) l)))
 unfolding line_len
 len_step l i h = let e : drop i l ≡ get_or l i 0 ∷ drop (i + 1) l = rw (add-one, drop-cons l i 0) in ap line_len e
 
 pub len_stop : (l : List ℕ) (i : ℕ) → i < length l → get_or l i 0 ≡ newline → line_len (drop i l) ≡ 1
-unfolding if◌then◌else◌
+unfolding when◌then◌else◌
 len_stop l i h e = len_step l i h ∙ rw (eq-eqb (get_or l i 0) newline e)
 
 pub len_more : (l : List ℕ) (i : ℕ) → i < length l → (get_or l i 0 ≡ newline → ⊥) → line_len (drop i l) ≡ suc (line_len (drop (i + 1) l))
-unfolding if◌then◌else◌
+unfolding when◌then◌else◌
 len_more l i h e = len_step l i h ∙ rw (ne_eqb (get_or l i 0) newline e)
 
 pub len_end : (l : List ℕ) (i : ℕ) → length l ≤ i → line_len (drop i l) ≡ 0
@@ -46,16 +46,16 @@ unfolding line_len
 len_end l i h = rw drop_of_length-le
 
 pub len_positive : (t : List ℕ) → 0 < length t → 0 < line_len t
-unfolding line_len if◌then◌else◌
+unfolding line_len when◌then◌else◌
 len_positive [] h = absurd (omega arith)
 len_positive (c ∷ t) h = pick (c =? newline)
   where
-    pick : (b : Bool) → 0 < (if b then 1 else suc (line_len t))
+    pick : (b : Bool) → 0 < (when b then 1 else suc (line_len t))
     pick true = omega arith
     pick false = omega arith
 
-len_case : (c : ℕ) (t : List ℕ) (b : Bool) → line_len t ≤ length t → (if b then 1 else suc (line_len t)) ≤ length (c ∷ t)
-unfolding if◌then◌else◌
+len_case : (c : ℕ) (t : List ℕ) (b : Bool) → line_len t ≤ length t → (when b then 1 else suc (line_len t)) ≤ length (c ∷ t)
+unfolding when◌then◌else◌
 len_case c t true h = omega arith
 len_case c t false h = omega arith
 
@@ -65,11 +65,11 @@ len_low [] = omega arith
 len_low (c ∷ t) = len_case c t (c =? newline) (len_low t)
 
 pub len_true : (c : ℕ) (t : List ℕ) → c =? newline ≡ true → line_len (c ∷ t) ≡ 1
-unfolding line_len if◌then◌else◌
+unfolding line_len when◌then◌else◌
 len_true c t e = rw e
 
 pub len_false : (c : ℕ) (t : List ℕ) → c =? newline ≡ false → line_len (c ∷ t) ≡ suc (line_len t)
-unfolding line_len if◌then◌else◌
+unfolding line_len when◌then◌else◌
 len_false c t e = rw e
 
 pub len_nil : line_len [] ≡ 0
@@ -78,37 +78,37 @@ len_nil = refl
 
 -- n bytes with no newline, and then one
 pub len_clean : (n : ℕ) (l : List ℕ) → n < length l → clean (take n l) ≡ true → get_or l n 0 ≡ newline → line_len l ≡ n + 1
-unfolding clean line_len if◌then◌else◌
+unfolding clean line_len when◌then◌else◌
 len_clean n [] h c e = absurd (omega arith)
 len_clean zero (a ∷ l) h c e = rw (eq-eqb a newline e)
 len_clean (suc n) (a ∷ l) h c e = go (a =? newline) refl c (λ k. len_clean n l (omega arith) k e)
   where
-    go : (b : Bool) → (a =? newline) ≡ b → (if b then false else clean (take n l)) ≡ true → (clean (take n l) ≡ true → line_len l ≡ n + 1)
-        → (if b then 1 else suc (line_len l)) ≡ suc n + 1
+    go : (b : Bool) → (a =? newline) ≡ b → (when b then false else clean (take n l)) ≡ true → (clean (take n l) ≡ true → line_len l ≡ n + 1)
+        → (when b then 1 else suc (line_len l)) ≡ suc n + 1
     go true q k ih = absurd (false≢true k)
     go false q k ih = omega (arith, ih k)
 
-pub clean_more : (l : List ℕ) (i : ℕ) → i < length l → clean (take (i + 1) l) ≡ (if get_or l i 0 =? newline then false else clean (take i l))
-unfolding clean if◌then◌else◌
+pub clean_more : (l : List ℕ) (i : ℕ) → i < length l → clean (take (i + 1) l) ≡ (when get_or l i 0 =? newline then false else clean (take i l))
+unfolding clean when◌then◌else◌
 clean_more [] i h = absurd (omega arith)
 clean_more (a ∷ l) zero h = refl
 clean_more (a ∷ l) (suc i) h =
     let e : suc i + 1 ≡ suc (i + 1) = omega arith in
-    ap (λ (n : ℕ). clean (take n (a ∷ l))) e ∙ ap (λ (b : Bool). if a =? newline then false else b) (clean_more l i (omega arith))
+    ap (λ (n : ℕ). clean (take n (a ∷ l))) e ∙ ap (λ (b : Bool). when a =? newline then false else b) (clean_more l i (omega arith))
     ∙ swap (a =? newline) (get_or l i 0 =? newline) (clean (take i l))
   where
-    swap : (x y k : Bool) → (if x then false else (if y then false else k)) ≡ (if y then false else (if x then false else k))
+    swap : (x y k : Bool) → (when x then false else (when y then false else k)) ≡ (when y then false else (when x then false else k))
     swap true true k = refl
     swap true false k = refl
     swap false true k = refl
     swap false false k = refl
 
 pub clean_lost : (s : List ℕ) (i : ℕ) → i < length s → get_or s i 0 ≡ newline → false ≡ clean (take (i + 1) s)
-unfolding if◌then◌else◌
+unfolding when◌then◌else◌
 clean_lost s i h e = sym (clean_more s i h ∙ rw (eq-eqb (get_or s i 0) newline e))
 
 pub clean_kept : (s : List ℕ) (i : ℕ) → i < length s → (get_or s i 0 ≡ newline → ⊥) → clean (take i s) ≡ clean (take (i + 1) s)
-unfolding if◌then◌else◌
+unfolding when◌then◌else◌
 clean_kept s i h e = sym (clean_more s i h ∙ rw (ne_eqb (get_or s i 0) newline e))
 
 -- a frame's line: 48 bytes with no newline, and then one

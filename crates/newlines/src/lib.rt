@@ -1,4 +1,6 @@
 // Where a line of a text ends.
+#![tactic(auto)]
+
 ghost use Rattle.std.specs.Prelude.{◌≡◌, ◌+◌, ◌≤◌, length, take, drop};
 ghost use Rattle.newlines.specs.Newlines.{line_len, clean};
 

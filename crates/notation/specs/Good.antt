@@ -4,7 +4,7 @@ use Rattle.std.proofs.Math.Path.{refl}
 use Rattle.std.proofs.Common.{subst, arith, ne_eqb}
 use Rattle.std.proofs.Math.Bool.{false}
 use Rattle.std.proofs.lemmas.Bool.{eqb-false}
-use Rattle.definition.specs.Words.{if◌then◌else◌, ◌=?◌}
+use Rattle.definition.specs.Words.{when◌then◌else◌, ◌=?◌}
 use Rattle.definition.specs.Events.{parts_of}
 use Rattle.definition.specs.Refusals.{causeless}
 use Rattle.definition.specs.RoundTrip.{Writable}
@@ -55,14 +55,14 @@ fits_start = tt
 -- ── One word more ──────────────────────────────────────────────────────────────────────────────────────────────────────────
 
 -- whatever a test says, where both places fit
-both : (b : Bool) (x y : Place) → Fits x → Fits y → Fits (if b then x else y)
-unfolding if◌then◌else◌
+both : (b : Bool) (x y : Place) → Fits x → Fits y → Fits (when b then x else y)
+unfolding when◌then◌else◌
 both true x y p q = p
 both false x y p q = q
 
 -- the second need fit for other numbers than 0 only
-unless_zero : (n : ℕ) (b : Bool) → (n =? 0) ≡ b → (x y : Place) → Fits x → ((n ≡ 0 → ⊥) → Fits y) → Fits (if b then x else y)
-unfolding if◌then◌else◌
+unless_zero : (n : ℕ) (b : Bool) → (n =? 0) ≡ b → (x y : Place) → Fits x → ((n ≡ 0 → ⊥) → Fits y) → Fits (when b then x else y)
+unfolding when◌then◌else◌
 unless_zero n true e x y p q = p
 unless_zero n false e x y p q = q (eqb-false n 0 e)
 

@@ -1,7 +1,6 @@
 -- The grammar of a day in words: where the reading of a line stands, what it takes there, and what a whole line says.
 use Rattle.std.specs.Prelude.{Bool, true, false, not, ◌&&◌, List, ℕ}
-use Rattle.definition.specs.Words.{if◌then◌else◌, ◌=?◌, ◌≤?◌}
-use Rattle.definition.specs.declared.Event.{Event}
+use Rattle.definition.specs.Words.{when◌then◌else◌, ◌=?◌, ◌≤?◌}
 use Rattle.definition.specs.declared.Event.TheVariants.{CheckOut, WarmPool, Abandon, CheckIn, Clear, MarkAsReady, Succeeded, SucceededForPool, Failed, Maintenance, FillPool, Pin, ReturnToPinner, TakeFromPinner, Close}
 use Rattle.spelling.specs.declared.Number.{Number}
 use Rattle.spelling.specs.Spelling.{most, decimal, number_of, same, spelt}
@@ -25,7 +24,7 @@ abbrev pub no_fit : Fit
 no_fit = record { good = false; value = 0 }
 
 abbrev pub fits : (largest : ℕ) → Number → Fit
-fits largest n = if n.good then (if n.value ≤? largest then record { good = true; value = n.value } else no_fit) else no_fit
+fits largest n = when n.good then (when n.value ≤? largest then record { good = true; value = n.value } else no_fit) else no_fit
 
 unfoldable pub number_up_to : (largest : ℕ) → List ℕ → Fit
 number_up_to largest w = fits largest (number_of (decimal w))
@@ -38,7 +37,7 @@ abbrev pub no_small : Small
 no_small = record { good = false; value = 0 }
 
 abbrev pub small_of : Fit → Small
-small_of n = if n.good then record { good = true; value = n.value } else no_small
+small_of n = when n.good then record { good = true; value = n.value } else no_small
 
 unfoldable pub small_number : List ℕ → Small
 small_number w = small_of (number_up_to most_small w)
@@ -77,43 +76,43 @@ expected_at (at.Wrong x) = x
 
 unfoldable pub option_named : List ℕ → Place
 option_named w =
-    if same w (spelt "maximum") then at.Value Maximum else
-    if same w (spelt "minimum") then at.Value Minimum else
-    if same w (spelt "max-connecting") then at.Value MaxConnecting else
-    if same w (spelt "idle-limit") then at.IdleLimit else
+    when same w (spelt "maximum") then at.Value Maximum else
+    when same w (spelt "minimum") then at.Value Minimum else
+    when same w (spelt "max-connecting") then at.Value MaxConnecting else
+    when same w (spelt "idle-limit") then at.IdleLimit else
     at.Wrong wants.TimeOrOption
 
 -- a line begins with an event's time, or with an option's name
 unfoldable pub start_takes : List ℕ → Place
-start_takes w = let n = number_up_to most w in if n.good then at.Kind n.value else option_named w
+start_takes w = let n = number_up_to most w in when n.good then at.Kind n.value else option_named w
 
 unfoldable pub value_takes : Setting → List ℕ → Place
-value_takes s w = let n = small_number w in if n.good then at.Set s n.value else at.Wrong wants.Value
+value_takes s w = let n = small_number w in when n.good then at.Set s n.value else at.Wrong wants.Value
 
 unfoldable pub idle_takes : List ℕ → Place
-idle_takes w = let n = number_up_to most w in if n.good then at.IdleSet n.value else at.Wrong wants.IdleLimit
+idle_takes w = let n = number_up_to most w in when n.good then at.IdleSet n.value else at.Wrong wants.IdleLimit
 
 unfoldable pub naming_named : (time : ℕ) → List ℕ → Place
 naming_named t w =
-    if same w (spelt "check-out") then at.Id t of.CheckOut else
-    if same w (spelt "warm") then at.Id t of.WarmPool else
-    if same w (spelt "abandon") then at.Id t of.Abandon else
-    if same w (spelt "check-in") then at.Id t of.CheckIn else
-    if same w (spelt "succeeded") then at.Id t of.Succeeded else
-    if same w (spelt "failed") then at.Id t of.Failed else
-    if same w (spelt "pin") then at.Id t of.Pin else
-    if same w (spelt "return") then at.Id t of.ReturnToPinner else
-    if same w (spelt "take") then at.Id t of.TakeFromPinner else
+    when same w (spelt "check-out") then at.Id t of.CheckOut else
+    when same w (spelt "warm") then at.Id t of.WarmPool else
+    when same w (spelt "abandon") then at.Id t of.Abandon else
+    when same w (spelt "check-in") then at.Id t of.CheckIn else
+    when same w (spelt "succeeded") then at.Id t of.Succeeded else
+    when same w (spelt "failed") then at.Id t of.Failed else
+    when same w (spelt "pin") then at.Id t of.Pin else
+    when same w (spelt "return") then at.Id t of.ReturnToPinner else
+    when same w (spelt "take") then at.Id t of.TakeFromPinner else
     at.Wrong wants.Kind
 
 -- some events have nothing behind their names, and a clear has its cause
 unfoldable pub kind_takes : (time : ℕ) → List ℕ → Place
 kind_takes t w =
-    if same w (spelt "ready") then at.Whole t MarkAsReady else
-    if same w (spelt "maintenance") then at.Whole t Maintenance else
-    if same w (spelt "fill") then at.Whole t FillPool else
-    if same w (spelt "close") then at.Whole t Close else
-    if same w (spelt "clear") then at.Cause t else
+    when same w (spelt "ready") then at.Whole t MarkAsReady else
+    when same w (spelt "maintenance") then at.Whole t Maintenance else
+    when same w (spelt "fill") then at.Whole t FillPool else
+    when same w (spelt "close") then at.Whole t Close else
+    when same w (spelt "clear") then at.Cause t else
     naming_named t w
 
 -- an event with the number of its request or connection
@@ -129,35 +128,35 @@ named t of.ReturnToPinner i = at.Whole t (ReturnToPinner i)
 named t of.TakeFromPinner i = at.Whole t (TakeFromPinner i)
 
 unfoldable pub id_takes : (time : ℕ) → Naming → List ℕ → Place
-id_takes t n w = let k = small_number w in if k.good then named t n k.value else at.Wrong (expected_of n)
+id_takes t n w = let k = small_number w in when k.good then named t n k.value else at.Wrong (expected_of n)
 
 -- there is no cause 0
 unfoldable pub cause_takes : (time : ℕ) → List ℕ → Place
 cause_takes t w =
     let n = small_number w in
-    if n.good then (if n.value =? 0 then at.Wrong wants.Cause else at.Timeout t n.value) else at.Wrong wants.Cause
+    when n.good then (when n.value =? 0 then at.Wrong wants.Cause else at.Timeout t n.value) else at.Wrong wants.Cause
 
 -- the marks of a check-in stand in any order, each once at most, and let-go behind them
 unfoldable pub marks_takes : (time id : ℕ) (errored executing : Bool) → List ℕ → Place
 marks_takes t i errored executing w =
-    if not errored && same w (spelt "errored") then at.Marks t i true executing else
-    if not executing && same w (spelt "executing") then at.Marks t i errored true else
-    if same w (spelt "let-go") then at.LetGo t i errored executing else
+    when not errored && same w (spelt "errored") then at.Marks t i true executing else
+    when not executing && same w (spelt "executing") then at.Marks t i errored true else
+    when same w (spelt "let-go") then at.LetGo t i errored executing else
     at.Wrong wants.MarkOrLetGo
 
 unfoldable pub let_go_takes : (time id : ℕ) (errored executing : Bool) → List ℕ → Place
 let_go_takes t i errored executing w =
-    let n = number_up_to most w in if n.good then at.Whole t (CheckIn i errored executing n.value) else at.Wrong wants.LetGo
+    let n = number_up_to most w in when n.good then at.Whole t (CheckIn i errored executing n.value) else at.Wrong wants.LetGo
 
 unfoldable pub timeout_takes : (time cause : ℕ) → List ℕ → Place
-timeout_takes t cause w = if same w (spelt "timeout") then at.Whole t (Clear true cause) else at.Wrong wants.TimeoutOrEnd
+timeout_takes t cause w = when same w (spelt "timeout") then at.Whole t (Clear true cause) else at.Wrong wants.TimeoutOrEnd
 
 -- a success that says when the connection was opened is one in background
 unfoldable pub opened_takes : (time id : ℕ) → List ℕ → Place
-opened_takes t i w = if same w (spelt "opened") then at.OpenedAt t i else at.Wrong wants.OpenedOrEnd
+opened_takes t i w = when same w (spelt "opened") then at.OpenedAt t i else at.Wrong wants.OpenedOrEnd
 
 unfoldable pub opened_at_takes : (time id : ℕ) → List ℕ → Place
-opened_at_takes t i w = let n = number_up_to most w in if n.good then at.Whole t (SucceededForPool i n.value) else at.Wrong wants.Opened
+opened_at_takes t i w = let n = number_up_to most w in when n.good then at.Whole t (SucceededForPool i n.value) else at.Wrong wants.Opened
 
 -- behind the first mistake nothing more is looked at
 abbrev pub takes : Place → (word : List ℕ) → Place

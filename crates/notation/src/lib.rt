@@ -1,4 +1,6 @@
 // A line of a day in words: where its reading may stand, and what is taken there. `specs/Notation` is the grammar.
+#![tactic(auto)]
+
 ghost use Rattle.std.specs.Prelude.{◌≡◌};
 ghost use Rattle.notation.specs.Notation.{number_up_to, small_number, expected_of, value_takes, idle_takes, named, id_takes, cause_takes, marks_takes, let_go_takes, timeout_takes, opened_takes, opened_at_takes};
 
@@ -7,7 +9,7 @@ use definition::Event;
 // ── What a line is made of ──
 
 // The options that are numbers of 32 bits.
-#[derive(Drop)]
+#[derive(Clone, Copy)]
 pub enum Setting {
     Maximum,
     Minimum,
@@ -15,7 +17,7 @@ pub enum Setting {
 }
 
 // The events whose first number is that of a request or a connection.
-#[derive(Drop)]
+#[derive(Clone, Copy)]
 pub enum Naming {
     CheckOut,
     WarmPool,
@@ -29,7 +31,7 @@ pub enum Naming {
 }
 
 // What should have come.
-#[derive(Drop)]
+#[derive(Clone, Copy)]
 pub enum Expected {
     TimeOrOption,
     Value,
@@ -50,7 +52,7 @@ pub enum Expected {
 }
 
 // Where the reading of a line stands: what was read, and so what may come next.
-#[derive(Drop)]
+#[derive(Clone, Copy)]
 pub enum Place {
     // nothing yet: a time, or an option's name
     Start,
@@ -81,7 +83,7 @@ pub enum Place {
 }
 
 // What a whole line says.
-#[derive(Drop)]
+#[derive(Clone, Copy)]
 pub enum Said {
     Nothing,
     Option(Setting, u32),
@@ -109,7 +111,7 @@ pub fn expected_of(n: Naming) -> Expected
 // ── Numbers ──
 
 // Where `good`, a number that fits.
-#[derive(Drop)]
+#[derive(Clone, Copy)]
 pub struct Fit {
     pub good: bool,
     pub value: u64,
@@ -134,7 +136,7 @@ pub fn number_up_to(most: u64, w: &[u8]) -> Fit
 }
 
 // A number of 32 bits.
-#[derive(Drop)]
+#[derive(Clone, Copy)]
 struct Small {
     good: bool,
     value: u32,

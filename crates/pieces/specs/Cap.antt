@@ -2,7 +2,7 @@
 use Rattle.std.specs.Prelude.{◌≡◌, refl, Bool, true, false, List, [], ◌∷◌, ◌++◌, ℕ, zero, suc, ◌<◌, length, take, leb}
 use Rattle.std.proofs.Common.{sym, ap, ◌∙◌, arith, length-take, take_all, leb-true, leb-false, ne_eqb}
 use Rattle.std.proofs.Math.Option.{none}
-use Rattle.definition.specs.Words.{if◌then◌else◌, ◌<?◌}
+use Rattle.definition.specs.Words.{when◌then◌else◌, ◌<?◌}
 use Rattle.definition.specs.Bytes.{bytes_of, frame_of_line, options_of_line, or_bad, or_none}
 use Rattle.slots.specs.Call.{call}
 use Rattle.first_line.specs.declared.Phase.{Phase}
@@ -14,7 +14,7 @@ use Rattle.lines.specs.OnSlots.{line_in, line_slots}
 use Rattle.pieces.specs.Feed.{held_most}
 
 no_bytes : (l : List ℕ) → (length l ≡ 49 → ⊥) → bytes_of l ≡ none
-unfolding bytes_of if◌then◌else◌
+unfolding bytes_of when◌then◌else◌
 no_bytes l h = rw (ne_eqb (length l) 49 h)
 
 pub bytes_cap : (l : List ℕ) → bytes_of (take held_most l) ≡ bytes_of l
@@ -43,7 +43,7 @@ cap_append (suc n) (a ∷ x) y = ap (λ (l : List ℕ). a ∷ l) (cap_append n x
 -- so the machine on slots may take such a line capped
 phase_cap : (s : Play) (g : Phase) (l : List ℕ) → line_in s g (take held_most l) ≡ line_in s g l
 phase_cap s First l = ap (options s) (options_cap l)
-phase_cap s Going l = ap (λ f. if s.used <? s.budget then answered s (call s.pool s.scratch f) else quiet s) (frame_cap l)
+phase_cap s Going l = ap (λ f. when s.used <? s.budget then answered s (call s.pool s.scratch f) else quiet s) (frame_cap l)
 phase_cap s Ended l = refl
 
 pub line_cap : (s : Play) (l : List ℕ) → line_slots s (take held_most l) ≡ line_slots s l

@@ -6,7 +6,7 @@ use Rattle.std.proofs.Math.Bool.{true, false}
 use mathlib.Core.List.{List, [], ◌∷◌, ◌++◌, append_assoc}
 use native.Mathlib.Omega.{arith}
 use Rattle.std.proofs.Math.ListN.{take}
-use Rattle.definition.specs.Words.{if◌then◌else◌, ◌<?◌, ◌=?◌}
+use Rattle.definition.specs.Words.{when◌then◌else◌, ◌<?◌, ◌=?◌}
 use Rattle.definition.specs.Bytes.{newline}
 use Rattle.first_line.specs.Took.{Took, line_room}
 use Rattle.lines.specs.Machine.{Machine}
@@ -21,7 +21,7 @@ module _ {S O : Type 0} (m : Machine S O) where
   -- a piece without a newline but at its end
   unfoldable pub chunk_of : View S → List ℕ → Fed S O
   chunk_of v p =
-      if ends p
+      when ends p
       then lined (m.line v.state (take held_most (v.held ++ p)))
       else stop (record { state = v.state; held = take held_most (v.held ++ p) }) []
 
@@ -38,19 +38,19 @@ module _ {S O : Type 0} (m : Machine S O) where
       rw e
 
   pub go_nil : (room : ℕ) (v : View S) → go_on m room v [] ≡ stop v []
-  unfolding go_on feed_in if◌then◌else◌
+  unfolding go_on feed_in when◌then◌else◌
   go_nil room v = same (room <? line_room)
     where
-      same : (b : Bool) → ◌≡◌ {A = Fed S O} (if b then stop v [] else stop v []) (stop v [])
+      same : (b : Bool) → ◌≡◌ {A = Fed S O} (when b then stop v [] else stop v []) (stop v [])
       same true = refl
       same false = refl
 
   chunk_true : (v : View S) (c : ℕ) → c =? newline ≡ true → chunk_of v (c ∷ []) ≡ lined (m.line v.state (take held_most (v.held ++ c ∷ [])))
-  unfolding chunk_of ends if◌then◌else◌
+  unfolding chunk_of ends when◌then◌else◌
   chunk_true v c e = rw e
 
   chunk_false : (v : View S) (c : ℕ) → c =? newline ≡ false → chunk_of v (c ∷ []) ≡ stop (push v c) []
-  unfolding chunk_of ends if◌then◌else◌
+  unfolding chunk_of ends when◌then◌else◌
   chunk_false v c e = rw e
 
   -- the first n of l as a piece, and then on
@@ -87,11 +87,11 @@ module _ {S O : Type 0} (m : Machine S O) where
   in_chunk room v (c ∷ t) h = in_cases room v c t (c =? newline) refl (λ w g. in_chunk room w t g)
 
   pub go_room : (room : ℕ) (v : View S) (t : List ℕ) → line_room ≤ room → go_on m room v t ≡ feed_in m room v t
-  unfolding go_on if◌then◌else◌
+  unfolding go_on when◌then◌else◌
   go_room room v t h = rw (le-ltb room line_room h)
 
   pub go_short : (room : ℕ) (v : View S) (t : List ℕ) → room < line_room → go_on m room v t ≡ stop v t
-  unfolding go_on if◌then◌else◌
+  unfolding go_on when◌then◌else◌
   go_short room v t h = rw (lt-ltb room line_room h)
 
   pub go_out : (room : ℕ) (v : View S) (text : List ℕ) (at : ℕ) → length text ≤ at → go_on m room v (drop at text) ≡ stop v (drop at text)
@@ -104,10 +104,10 @@ module _ {S O : Type 0} (m : Machine S O) where
   Left n k = length k.rest ≤ n
 
   go_left : (room : ℕ) (v : View S) (t : List ℕ) → Left (length t) (feed_in m room v t) → Left (length t) (go_on m room v t)
-  unfolding go_on if◌then◌else◌
+  unfolding go_on when◌then◌else◌
   go_left room v t h = go (room <? line_room)
     where
-      go : (b : Bool) → Left (length t) (if b then stop v t else feed_in m room v t)
+      go : (b : Bool) → Left (length t) (when b then stop v t else feed_in m room v t)
       go true = omega arith
       go false = h
 

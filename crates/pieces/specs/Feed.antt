@@ -2,7 +2,7 @@
 use Rattle.std.specs.Prelude.{◌≡◌, true, false, List, [], ◌∷◌, ◌++◌, ℕ, ◌-◌, length, take}
 use Rattle.std.proofs.Math.Path.{refl}
 use Rattle.std.proofs.Common.{append_assoc}
-use Rattle.definition.specs.Words.{if◌then◌else◌, ◌<?◌, ◌=?◌}
+use Rattle.definition.specs.Words.{when◌then◌else◌, ◌<?◌, ◌=?◌}
 use Rattle.definition.specs.Bytes.{newline}
 use Rattle.first_line.specs.Took.{Took, line_room}
 use Rattle.lines.specs.Machine.{Machine}
@@ -55,23 +55,23 @@ module _ {S O : Type 0} (m : Machine S O) where
   unfoldable pub feed_in : (room : ℕ) → View S → List ℕ → Fed S O
   feed_in room v [] = stop v []
   feed_in room v (c ∷ t) =
-      if c =? newline
+      when c =? newline
       then joined (line_at v c).out
-      (if room - length (line_at v c).out <? line_room
+      (when room - length (line_at v c).out <? line_room
       then stop (emptied (line_at v c).state) t
       else feed_in (room - length (line_at v c).out) (emptied (line_at v c).state) t)
       else feed_in room (push v c) t
 
   unfoldable pub go_on : (room : ℕ) → View S → List ℕ → Fed S O
-  go_on room v t = if room <? line_room then stop v t else feed_in room v t
+  go_on room v t = when room <? line_room then stop v t else feed_in room v t
 
   pub in_true : (room : ℕ) (v : View S) (c : ℕ) (t : List ℕ) → c =? newline ≡ true
       → feed_in room v (c ∷ t) ≡ joined (line_at v c).out (go_on (room - length (line_at v c).out) (emptied (line_at v c).state) t)
-  unfolding feed_in go_on if◌then◌else◌
+  unfolding feed_in go_on when◌then◌else◌
   in_true room v c t e = rw e
 
   pub in_false : (room : ℕ) (v : View S) (c : ℕ) (t : List ℕ) → c =? newline ≡ false → feed_in room v (c ∷ t) ≡ feed_in room (push v c) t
-  unfolding feed_in if◌then◌else◌
+  unfolding feed_in when◌then◌else◌
   in_false room v c t e = rw e
 
   pub in_nil : (room : ℕ) (v : View S) → feed_in room v [] ≡ stop v []

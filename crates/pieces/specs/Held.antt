@@ -3,7 +3,7 @@ use Rattle.std.specs.Prelude.{◌≡◌, refl, true, false, List, [], ◌∷◌,
 use Rattle.std.proofs.Common.{sym, ap, subst, ◌∙◌, arith, drop-drop, length-take-le}
 use Rattle.std.proofs.Math.Seq.{paste, take-append-add, take-nil}
 use Rattle.std.proofs.lemmas.List.Edits.{length-paste, take-paste, drop-paste}
-use Rattle.definition.specs.Words.{if◌then◌else◌}
+use Rattle.definition.specs.Words.{when◌then◌else◌}
 use Rattle.first_line.specs.Took.{Took}
 use Rattle.first_line.specs.OnSlots.{Play}
 use Rattle.first_line.specs.Code.{Able, Lined}
@@ -56,11 +56,11 @@ holds_none = record { few = omega arith; long = refl; blank = refl }
 
 module _ (s : Play) (b : List ℕ) (n : ℕ) (p before : List ℕ) where
   ended_piece : ends p ≡ true → chunk_of on_slots (held_of s b n) p ≡ lined on_slots (line_slots s (take held_most (take n b ++ p)))
-  unfolding chunk_of if◌then◌else◌
+  unfolding chunk_of when◌then◌else◌
   ended_piece e = rw e
 
   open_piece : ends p ≡ false → chunk_of on_slots (held_of s b n) p ≡ stop (record { state = s; held = take held_most (take n b ++ p) }) []
-  unfolding chunk_of if◌then◌else◌
+  unfolding chunk_of when◌then◌else◌
   open_piece e = rw e
 
   module _ (after : List ℕ) (s' : Play) (w : ℕ) where

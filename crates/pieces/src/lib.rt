@@ -1,4 +1,6 @@
 // A piece of a line: what has not ended is held, and a line that has is taken.
+#![tactic(auto)]
+
 ghost use Rattle.std.specs.Prelude.{◌≡◌, ◌+◌, ◌≤◌, ◌<◌, length};
 ghost use Rattle.std.proofs.Math.Seq.{paste};
 ghost use Rattle.definition.specs.Refusals.{enough_room};
@@ -16,7 +18,7 @@ use slots::{Head, Numbers, States, Times, Waiters};
 // The most that is held of a line: one byte more than a line may have, which tells that it is malformed.
 pub const HELD: usize = 50;
 
-#[derive(Drop)]
+#[derive(Clone, Copy)]
 struct Held {
     bytes: [u8; HELD],
     count: usize,
@@ -40,7 +42,7 @@ fn hold(held: [u8; HELD], count: usize, piece: &[u8]) -> Held
 }
 
 // What a piece leaves beside the lent parts, and how much of the output was written.
-#[derive(Drop)]
+#[derive(Clone, Copy)]
 pub struct Piece {
     pub pace: Pace,
     pub head: Head,

@@ -6,7 +6,7 @@ use Rattle.std.proofs.Math.Bool.{true, false}
 use mathlib.Core.List.{List, [], ◌∷◌, ◌++◌, append_assoc, append-nil}
 use borrow.Author.Tests.{ltb-true}
 use Rattle.std.proofs.Math.ListN.{take, drop}
-use Rattle.definition.specs.Words.{if◌then◌else◌, ◌<?◌, ◌=?◌}
+use Rattle.definition.specs.Words.{when◌then◌else◌, ◌<?◌, ◌=?◌}
 use Rattle.definition.specs.Bytes.{newline}
 use Rattle.first_line.specs.Took.{Took, line_room}
 use Rattle.lines.specs.Machine.{Machine, thereafter}
@@ -17,7 +17,7 @@ module _ {S O : Type 0} (m : Machine S O) where
   unfoldable pub feed : View S → List ℕ → Fed S O
   feed v [] = stop v []
   feed v (c ∷ t) =
-      if c =? newline
+      when c =? newline
       then joined (line_at m v c).out (feed (emptied (line_at m v c).state) t)
       else feed (push v c) t
 
@@ -34,11 +34,11 @@ module _ {S O : Type 0} (m : Machine S O) where
   joined_then o k t = rw append_assoc
 
   pub feed_true : (v : View S) (c : ℕ) (t : List ℕ) → c =? newline ≡ true → feed v (c ∷ t) ≡ joined (line_at m v c).out (feed (emptied (line_at m v c).state) t)
-  unfolding feed if◌then◌else◌
+  unfolding feed when◌then◌else◌
   feed_true v c t e = rw e
 
   pub feed_false : (v : View S) (c : ℕ) (t : List ℕ) → c =? newline ≡ false → feed v (c ∷ t) ≡ feed (push v c) t
-  unfolding feed if◌then◌else◌
+  unfolding feed when◌then◌else◌
   feed_false v c t e = rw e
 
   pub feed_nil : (v : View S) → feed v [] ≡ stop v []
@@ -63,10 +63,10 @@ module _ {S O : Type 0} (m : Machine S O) where
   Reads v t k = feed v t ≡ and_then k k.rest
 
   go_reads : (room : ℕ) (v : View S) (t : List ℕ) → Reads v t (feed_in m room v t) → Reads v t (go_on m room v t)
-  unfolding go_on if◌then◌else◌
+  unfolding go_on when◌then◌else◌
   go_reads room v t w = go (room <? line_room)
     where
-      go : (b : Bool) → Reads v t (if b then stop v t else feed_in m room v t)
+      go : (b : Bool) → Reads v t (when b then stop v t else feed_in m room v t)
       go true = refl
       go false = w
 
@@ -129,10 +129,10 @@ module _ {S O : Type 0} (m : Machine S O) where
   Stops room k = line_room ≤ room - length k.out → length k.rest ≡ 0
 
   go_stop : (room : ℕ) (v : View S) (t : List ℕ) → Stops room (feed_in m room v t) → Stops room (go_on m room v t)
-  unfolding go_on if◌then◌else◌
+  unfolding go_on when◌then◌else◌
   go_stop room v t h = go (room <? line_room) refl
     where
-      go : (b : Bool) → (room <? line_room) ≡ b → Stops room (if b then stop v t else feed_in m room v t)
+      go : (b : Bool) → (room <? line_room) ≡ b → Stops room (when b then stop v t else feed_in m room v t)
       go true e r = absurd (omega (arith, ltb-true room line_room e))
       go false e r = h r
 

@@ -4,13 +4,13 @@ use Rattle.std.proofs.Math.Path.{refl, subst}
 use Rattle.std.proofs.Common.{sym, ap, ◌∙◌, arith, length-append}
 use Rattle.std.proofs.Math.Bool.{true, false}
 use Rattle.std.proofs.lemmas.Bool.{false≢true}
-use mathlib.Core.List.{List, [], ◌∷◌, ◌++◌, append-nil, append_assoc}
+use mathlib.Core.List.{List, [], ◌++◌, append-nil, append_assoc}
 use borrow.Author.Tests.{eq-eqb, eqb-true, le-leb}
 use Rattle.std.proofs.Math.ListN.{length}
 use Rattle.std.proofs.lemmas.List.{length-replicate}
 use Rattle.definition.specs.Booleans.{and_left}
 use Rattle.definition.specs.Laws.{no_length}
-use Rattle.definition.specs.Words.{if◌then◌else◌, ◌=?◌, ◌≤?◌}
+use Rattle.definition.specs.Words.{when◌then◌else◌, ◌=?◌, ◌≤?◌}
 use Rattle.definition.specs.Day.{log_of}
 use Rattle.definition.specs.Refusals.{enough_room}
 use Rattle.refinement.specs.Alike.{fresh_slots}
@@ -33,7 +33,7 @@ abbrev pub all? : (room : ℕ) → Fed Play ℕ → Bool
 all? room k = (length k.rest =? 0) && (line_room ≤? room - length k.out)
 
 abbrev pub told_of : Bool → Fed Play ℕ → Underway
-told_of b k = if b then record { whole = true; took = ended on_slots k } else record { whole = false; took = record { state = k.view.state; out = k.out } }
+told_of b k = when b then record { whole = true; took = ended on_slots k } else record { whole = false; took = record { state = k.view.state; out = k.out } }
 
 -- the text is read as far as there is room, and ended where it is read to its end and there is room for one event more
 unfoldable pub day_in : (room budget : ℕ) → (text : List ℕ) → Underway
@@ -68,7 +68,7 @@ module _ (room budget : ℕ) (text : List ℕ) where
   got = go_on on_slots room (opening budget) text
 
   told_whole : (b : Bool) → all? room got ≡ b → (told_of b got).whole ≡ true → Writes (told_of b got).took budget text
-  unfolding if◌then◌else◌
+  unfolding when◌then◌else◌
   told_whole true e h =
       let z : got.rest ≡ [] = no_length got.rest (eqb-true (length got.rest) 0 (and_left _ _ e)) in
       subst (λ (t : Took Play ℕ). Writes t budget text) (ap (ended on_slots) (some_reads on_slots room (opening budget) text) ∙ all_read got z)
@@ -94,7 +94,7 @@ module _ (room budget : ℕ) (text : List ℕ) where
   written_less = omega (arith, ap length written_then, length-append got.out still)
 
   told_begins : (b : Bool) → all? room got ≡ b → Prefix (told_of b got).took.out (log_of budget text)
-  unfolding if◌then◌else◌
+  unfolding when◌then◌else◌
   told_begins true e = record { rest = []; same = append-nil _ ∙ (told_whole true e refl).log }
   told_begins false e = record { rest = still; same = written_then }
 
@@ -104,7 +104,7 @@ module _ (room budget : ℕ) (text : List ℕ) where
   day_begins = told_begins (all? room got) refl
 
   all_true : (b : Bool) → all? room got ≡ b → b ≡ true → (told_of b got).whole ≡ true
-  unfolding if◌then◌else◌
+  unfolding when◌then◌else◌
   all_true true e h = refl
   all_true false e h = h
 

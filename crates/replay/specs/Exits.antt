@@ -1,5 +1,5 @@
 -- A whole day in one call: one law for each exit.
-use Rattle.std.specs.Prelude.{◌≡◌, refl, Bool, ◌&&◌, List, ◌++◌, take}
+use Rattle.std.specs.Prelude.{◌≡◌, refl, Bool, List, ◌++◌, take}
 use Rattle.std.proofs.Math.Path.{sym, ap, subst}
 use Rattle.std.proofs.Common.{◌∙◌, arith, length-append, length-drop}
 use Rattle.std.proofs.Math.Bool.{true, false}
@@ -7,7 +7,7 @@ use Prim.Native.Nat.{ℕ, ◌+◌, ◌-◌, ◌≤◌, ◌<◌}
 use borrow.Author.Tests.{eq-eqb, ne_eqb, le-leb, lt-leb}
 use Rattle.std.proofs.Math.ListN.{length, drop}
 use Rattle.definition.specs.Booleans.{no_first, no_second}
-use Rattle.definition.specs.Words.{if◌then◌else◌, ◌=?◌, ◌≤?◌}
+use Rattle.definition.specs.Words.{when◌then◌else◌, ◌=?◌, ◌≤?◌}
 use Rattle.big_endian.specs.Laws.{tail_more}
 use Rattle.first_line.specs.Took.{Took, line_room}
 use Rattle.first_line.specs.OnSlots.{Play}
@@ -38,7 +38,7 @@ module _ (budget : ℕ) (text o o' : List ℕ) (s₀ s : Session) (n w : ℕ) (b
   pub day_done : n ≡ length text → line_room ≤ length o' - w → (y : List ℕ) (u m : ℕ)
       → Finishes (finish on_slots (view_in s).state (view_in s).held) (take (length o' - w) (drop w o')) y u m
       → Logged (day_in (length o) budget text) o (take w o' ++ (y ++ drop (length o' - w) (drop w o'))) (record { whole = true; used = u; written = w + m })
-  unfolding if◌then◌else◌
+  unfolding when◌then◌else◌
   day_done e h y u m q =
       let k = reading in
       let f : Took Play ℕ = finish on_slots got.view.state got.view.held in
@@ -58,7 +58,7 @@ module _ (budget : ℕ) (text o o' : List ℕ) (s₀ s : Session) (n w : ℕ) (b
   part = record { whole = false; used = s.run.pace.used; written = w }
 
   partly : all? (length o) got ≡ false → Logged (day_in (length o) budget text) o o' part
-  unfolding if◌then◌else◌
+  unfolding when◌then◌else◌
   partly g =
       let k = reading in
       told false part o' g (record { whole = refl; used = ap (λ (v : View Play). v.state.used) k.view; written = k.written; laid = k.laid })

@@ -3,7 +3,7 @@ use Rattle.std.specs.Prelude.{◌≡◌, refl, Bool, true, false, List, [], ◌�
 use Rattle.std.proofs.Common.{sym, ap, ◌∙◌, arith, ltb-true, ltb-false}
 use Rattle.std.proofs.Math.Option.{Option, none, some}
 use Rattle.std.proofs.Math.Seq.{take-nil}
-use Rattle.definition.specs.Words.{if◌then◌else◌, ◌<?◌}
+use Rattle.definition.specs.Words.{when◌then◌else◌, ◌<?◌}
 use Rattle.definition.specs.Pool.{Pool}
 use Rattle.definition.specs.Refusals.{Result, step, after, enough_room, Making, NotMade, Made, make}
 use Rattle.definition.specs.Bytes.{frame_of_line, options_of_line}
@@ -50,7 +50,7 @@ module _ (s : Lists) where
 
   abbrev pub line_in : Stage → List ℕ → Took Lists Entry
   line_in First l = options (options_of_line l)
-  line_in (Going p) l = if s.used <? s.budget then answered p (step p (frame_of_line l) enough_room) else quiet s
+  line_in (Going p) l = when s.used <? s.budget then answered p (step p (frame_of_line l) enough_room) else quiet s
   line_in Ended l = quiet s
 
   -- an empty text counts as a bad first line
@@ -66,7 +66,7 @@ on_lists = record { line = λ s l. line_in s s.stage l; last = λ s. last_in s s
 
 stage_cap : (s : Lists) (g : Stage) (l : List ℕ) → line_in s g (take held_most l) ≡ line_in s g l
 stage_cap s First l = ap (options s) (options_cap l)
-stage_cap s (Going p) l = ap (λ f. if s.used <? s.budget then answered s p (step p f enough_room) else quiet s) (frame_cap l)
+stage_cap s (Going p) l = ap (λ f. when s.used <? s.budget then answered s p (step p f enough_room) else quiet s) (frame_cap l)
 stage_cap s Ended l = refl
 
 abbrev Over : Took Lists Entry → Type 0
@@ -80,8 +80,8 @@ options_over : (s : Lists) (x : Option Options) → Over (options s x)
 options_over s none = refl
 options_over s (some o) = made_over s (make o)
 
-if_over : (s : Lists) (g : Stage) (b : Bool) (k : Took Lists Entry) → Over k → Over (quiet s) → Over (if b then k else quiet s)
-unfolding if◌then◌else◌
+if_over : (s : Lists) (g : Stage) (b : Bool) (k : Took Lists Entry) → Over k → Over (quiet s) → Over (when b then k else quiet s)
+unfolding when◌then◌else◌
 if_over s g true k h q = h
 if_over s g false k h q = q
 
@@ -104,7 +104,7 @@ abbrev pub going_at : Pool → ℕ → ℕ → Lists
 going_at p used budget = record { stage = Going p; used = used; budget = budget }
 
 abbrev line_going : Pool → ℕ → ℕ → List ℕ → Bool → Took Lists Entry
-line_going p used budget l b = if b then answered (going_at p used budget) p (step p (frame_of_line l) enough_room) else quiet (going_at p used budget)
+line_going p used budget l b = when b then answered (going_at p used budget) p (step p (frame_of_line l) enough_room) else quiet (going_at p used budget)
 
 abbrev GoingGives : Pool → ℕ → ℕ → List (List ℕ) → Took Lists Entry → Type 0
 GoingGives p used budget ls k = Gives k (frames p (used + 2) (take (budget - used) ls)) (used + min (budget - used) (length ls))
@@ -130,7 +130,7 @@ going_spent p used budget l ls k h g =
     record { log = g.log ∙ rw e; used = g.used ∙ omega arith }
 
 going_lines : (p : Pool) (used budget : ℕ) (ls : List (List ℕ)) → GoingGives p used budget ls (lines on_lists (going_at p used budget) ls)
-unfolding lines if◌then◌else◌
+unfolding lines when◌then◌else◌
 going_lines p used budget [] = going_none p used budget
 going_lines p used budget (l ∷ ls) = go (used <? budget) refl (λ q n. going_lines q n budget ls)
   where

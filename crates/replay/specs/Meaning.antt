@@ -5,7 +5,7 @@ use Rattle.std.proofs.Common.{sym, subst, ◌∙◌, true≢false, append_assoc,
 use Rattle.std.proofs.Math.Bool.{true, false}
 use Rattle.std.proofs.lemmas.Bool.{false≢true}
 use Rattle.std.proofs.Math.Option.{Option, none, some}
-use Rattle.definition.specs.Words.{if◌then◌else◌, ◌<?◌}
+use Rattle.definition.specs.Words.{when◌then◌else◌, ◌<?◌}
 use Rattle.definition.specs.Pool.{Pool, with_defaults, in_range, fresh}
 use Rattle.definition.specs.Refusals as R
 use Rattle.definition.specs.Refusals.{enough_room, room_records, make, first}
@@ -19,12 +19,14 @@ use Rattle.definition.specs.declared.Refusal.TheVariants.{Malformed, OptionsOutO
 use Rattle.slots.specs.View.{SlotPool}
 use Rattle.slots.specs.Call.{World, call}
 use Rattle.slots.specs.declared.Outcome.{Outcome}
-use Rattle.slots.specs.declared.Outcome.TheVariants.{Refused, Accepted}
+use Rattle.slots.specs.declared.Outcome.TheVariants.{Refused}
 use Rattle.refinement.specs.Stands.{Stands}
-use Rattle.refinement.specs.Call.{Refines, call_refines}
-use Rattle.refinement.specs.Formed.{fresh_stands}
+use Rattle.refinement.specs.Call.{Refines}
+use Rattle.refinement.proofs.Call.{call_refines}
+use Rattle.refinement.proofs.Formed.{fresh_stands}
 use Rattle.printing.specs.Printed.{printed}
-use Rattle.refinement.specs.RecordRoom.{FewIn, call_few}
+use Rattle.refinement.specs.RecordRoom.{FewIn}
+use Rattle.refinement.proofs.RecordRoom.{call_few}
 use Rattle.first_line.specs.declared.Phase.{Phase}
 use Rattle.first_line.specs.declared.Phase.TheVariants as phase
 use Rattle.first_line.specs.Took.{Took, quiet}
@@ -83,7 +85,7 @@ text_append (e ∷ a) b = ap (λ (x : List ℕ). line_of (entry_bytes e) ++ x) (
 
 -- room that is enough is as good as any
 step_room : (m : Pool) (f : Frame) (room : ℕ) → enough_room ≤ room → R.step m f room ≡ R.step m f enough_room
-unfolding R.step R.tests first if◌then◌else◌
+unfolding R.step R.tests first when◌then◌else◌
 step_room m Bad room h = rw (le-ltb room enough_room h)
 step_room m (Good e now) room h = rw (le-ltb room enough_room h)
 
@@ -129,12 +131,12 @@ module _ (s : Play) (t : Lists) (h : Plays s t) where
   bad_says r = record { plays = record { used = h.used; budget = h.budget; stage = tt; room = h.room }; text = text_one (RefusedLine r 1) }
 
   made_says : (o : Options) → Says (O.made s (with_defaults o)) (L.made t (make o))
-  unfolding make if◌then◌else◌
+  unfolding make when◌then◌else◌
   made_says o = go (in_range (with_defaults o)) refl
     where
       go : (b : Bool) → in_range (with_defaults o) ≡ b
-          → Says (if b then O.ready s (with_defaults o) else O.badly s OptionsOutOfRange)
-          (L.made t (if b then R.Made (fresh (with_defaults o)) else R.NotMade OptionsOutOfRange))
+          → Says (when b then O.ready s (with_defaults o) else O.badly s OptionsOutOfRange)
+          (L.made t (when b then R.Made (fresh (with_defaults o)) else R.NotMade OptionsOutOfRange))
       go true e = record { plays = record { used = h.used; budget = h.budget; stage = fresh_stands (with_defaults o) e; room = h.room }; text = text_none }
       go false e = bad_says OptionsOutOfRange
 
@@ -143,7 +145,7 @@ module _ (s : Play) (t : Lists) (h : Plays s t) where
   options_says (some o) = made_says o
 
   line_in_lem : (g : Phase) (k : Stage) → Tied g s.pool k → (l : List ℕ) → Says (P.line_in s g l) (L.line_in t k l)
-  unfolding if◌then◌else◌
+  unfolding when◌then◌else◌
   line_in_lem phase.First First e l = options_says (options_of_line l)
   line_in_lem phase.First (Going m) e l = absurd e
   line_in_lem phase.First Ended e l = absurd e
@@ -153,8 +155,8 @@ module _ (s : Play) (t : Lists) (h : Plays s t) where
       go (s.used <? s.budget) (t.used <? t.budget) d
     where
       go : (a b : Bool) → a ≡ b
-          → Says (if a then F.answered s (call s.pool s.scratch (frame_of_line l)) else quiet s)
-          (if b then L.answered t m (R.step m (frame_of_line l) enough_room) else quiet t)
+          → Says (when a then F.answered s (call s.pool s.scratch (frame_of_line l)) else quiet s)
+          (when b then L.answered t m (R.step m (frame_of_line l) enough_room) else quiet t)
       go true true d = frame_says s t m st h (frame_of_line l)
       go false false d = quiet_says
       go true false d = absurd (true≢false d)

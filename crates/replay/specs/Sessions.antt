@@ -2,7 +2,7 @@
 use Rattle.std.specs.Prelude.{◌≡◌, refl, Bool, List, [], ◌∷◌, ◌++◌, ℕ, zero, suc, ◌-◌, ◌≤◌, length, take, drop}
 use Rattle.std.proofs.Common.{sym, ap, subst, ◌∙◌, arith, length-drop, take_at}
 use Rattle.std.proofs.Math.Bool.{true, false}
-use Rattle.definition.specs.Words.{if◌then◌else◌, ◌<?◌, ◌=?◌}
+use Rattle.definition.specs.Words.{when◌then◌else◌, ◌<?◌, ◌=?◌}
 use Rattle.definition.specs.Bytes.{newline}
 use Rattle.definition.specs.Day.{log_of, frames_used}
 use Rattle.first_line.specs.Took.{Took, line_room}
@@ -32,10 +32,10 @@ module _ {S O : Type 0} (m : Machine S O) where
   no_part v t (suc n) h e = absurd (omega (arith, ap length e, length-drop (suc n) t))
 
   go_part : (room : ℕ) (v : View S) (t : List ℕ) → Partly v t (feed_in m room v t) → Partly v t (go_on m room v t)
-  unfolding go_on if◌then◌else◌
+  unfolding go_on when◌then◌else◌
   go_part room v t h = go (room <? line_room)
     where
-      go : (b : Bool) → Partly v t (if b then stop v t else feed_in m room v t)
+      go : (b : Bool) → Partly v t (when b then stop v t else feed_in m room v t)
       go true = no_part v t
       go false = h
 

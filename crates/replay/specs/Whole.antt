@@ -4,7 +4,7 @@ use Rattle.std.proofs.Math.Path.{refl, sym, ap}
 use Rattle.std.proofs.Common.{◌∙◌}
 use mathlib.Core.List.{List, [], ◌∷◌, ◌++◌, append_assoc, append-nil}
 use Rattle.std.proofs.Math.Option.{Option, none, some}
-use Rattle.definition.specs.Words.{if◌then◌else◌, ◌<?◌, ◌=?◌}
+use Rattle.definition.specs.Words.{when◌then◌else◌, ◌<?◌, ◌=?◌}
 use Rattle.definition.specs.Pool.{with_defaults, in_range}
 use Rattle.definition.specs.Bytes.{newline, frame_of_line, options_of_line}
 use Rattle.definition.specs.Day.{before, lines_of}
@@ -73,11 +73,11 @@ module _ {S O : Type 0} (m : Machine S O) (tame : Tame m) where
   lines_more s l ls = refl
 
   lines_true : (c : ℕ) (t : List ℕ) → c =? newline ≡ true → lines_of (c ∷ t) ≡ (c ∷ []) ∷ lines_of t
-  unfolding lines_of if◌then◌else◌
+  unfolding lines_of when◌then◌else◌
   lines_true c t e = rw e
 
   lines_false : (c : ℕ) (t : List ℕ) → c =? newline ≡ false → lines_of (c ∷ t) ≡ before c (lines_of t)
-  unfolding lines_of if◌then◌else◌
+  unfolding lines_of when◌then◌else◌
   lines_false c t e = rw e
 
   lines_nil : lines_of [] ≡ []
@@ -119,8 +119,8 @@ module _ {S O : Type 0} (m : Machine S O) (tame : Tame m) where
 abbrev Over : Took Play ℕ → Type 0
 Over k = last_slots k.state ≡ quiet k.state
 
-if_over : (b : Bool) (j k : Took Play ℕ) → Over j → Over k → Over (if b then j else k)
-unfolding if◌then◌else◌
+if_over : (b : Bool) (j k : Took Play ℕ) → Over j → Over k → Over (when b then j else k)
+unfolding when◌then◌else◌
 if_over true j k g h = g
 if_over false j k g h = h
 

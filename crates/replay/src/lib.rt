@@ -1,11 +1,13 @@
 // A day's text gives its log's text in one call.
+#![tactic(auto)]
+
 ghost use Rattle.std.specs.Prelude.{length};
 ghost use Rattle.replay.specs.Days.{day_in, Logged};
 
 use definition::ROOM_LINES;
 
 // The frames used, how much of the output was written, and whether that is the whole log.
-#[derive(Drop)]
+#[derive(Clone, Copy)]
 pub struct Day {
     pub whole: bool,
     pub used: u64,

@@ -1,4 +1,6 @@
 // A run: a day's text in pieces of any cut, as far as there is room for what is said.
+#![tactic(auto)]
+
 ghost use Rattle.std.specs.Prelude.{◌≡◌, ◌≤◌, length, take};
 ghost use Rattle.definition.specs.Refusals.{enough_room};
 ghost use Rattle.slots.specs.View.{given, before, after};
@@ -15,7 +17,7 @@ use pieces::HELD;
 use slots::{Head, Numbers, States, Times, Waiters};
 
 // A run between two pieces of its text: the first `count` of `held` are the bytes of the line that has not ended, the others are 0.
-#[derive(Drop)]
+#[derive(Clone, Copy)]
 pub struct Run {
     pub pace: Pace,
     pub held: [u8; HELD],
@@ -23,7 +25,7 @@ pub struct Run {
 }
 
 // What a call leaves beside the lent parts, how much of its text it read, and of its output it wrote.
-#[derive(Drop)]
+#[derive(Clone, Copy)]
 pub struct Part {
     pub run: Run,
     pub head: Head,

@@ -5,7 +5,7 @@ use Rattle.std.proofs.lemmas.List.{length-replicate}
 use Rattle.definition.specs.Refusals.{enough_room}
 use Rattle.slots.specs.View.{SlotPool}
 use Rattle.refinement.specs.Alike.{fresh_head, fresh_slots}
-use Rattle.refinement.specs.Formed.{over_blank, fresh_parts}
+use Rattle.refinement.proofs.Formed.{over_blank, fresh_parts}
 use Rattle.first_line.specs.Took.{Took}
 use Rattle.first_line.specs.OnSlots.{Play}
 use Rattle.first_line.specs.Code.{Lined}

@@ -1,4 +1,6 @@
 // A day under way, in one value: begun, fed with text in pieces of any cut, and finished.
+#![tactic(auto)]
+
 ghost use Rattle.std.specs.Prelude.{◌≤◌, length};
 ghost use Rattle.first_line.specs.Took.{line_room};
 ghost use Rattle.lines.specs.OnSlots.{on_slots};
@@ -10,7 +12,7 @@ use runs::Run;
 use slots::{Head, NUMBERS, Numbers, STATES, States, Times, Waiters};
 
 // The run, the pool, and the scratch that events lay their records in.
-#[derive(Drop)]
+#[derive(Clone, Copy)]
 pub struct Session {
     pub run: Run,
     pub head: Head,
@@ -39,7 +41,7 @@ pub fn begin(budget: u64) -> Session
 }
 
 // What a piece of the text leaves, how much of it was read, and of the output written.
-#[derive(Drop)]
+#[derive(Clone, Copy)]
 pub struct Part {
     pub session: Session,
     pub read: usize,
@@ -87,7 +89,7 @@ pub fn go_on(session: Session, text: &[u8], out: &mut [u8]) -> Part
 }
 
 // The frames used in all, and how much of the output was written.
-#[derive(Drop)]
+#[derive(Clone, Copy)]
 pub struct End {
     pub used: u64,
     pub written: usize,

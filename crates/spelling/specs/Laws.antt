@@ -1,12 +1,11 @@
 -- One law for each exit of the reading of a number; and a text that is compared.
-use Rattle.std.specs.Prelude.{◌≡◌, refl, Bool, true, false, ◌&&◌, List, [], ◌∷◌, ℕ, ◌+◌, ◌-◌, ◌*◌, ◌≤◌, ◌<◌, length, drop, get_or}
+use Rattle.std.specs.Prelude.{◌≡◌, refl, Bool, true, false, List, [], ◌∷◌, ℕ, ◌+◌, ◌-◌, ◌*◌, ◌≤◌, ◌<◌, length, drop, get_or}
 use Rattle.std.proofs.Math.Path.{sym, ap}
 use Rattle.std.proofs.Common.{◌∙◌, arith, add-one, eq-eqb, ne_eqb, eqb-true, le-leb, drop_of_length-le, drop-cons}
 use Rattle.std.proofs.lemmas.Bool.{false≢true, lt-leb}
 use Rattle.std.proofs.Math.Option.{none, some}
 use Rattle.definition.specs.Booleans.{no_first, no_second}
-use Rattle.definition.specs.Words.{if◌then◌else◌, ◌=?◌, ◌≤?◌}
-use Rattle.spelling.specs.declared.Number.{Number}
+use Rattle.definition.specs.Words.{when◌then◌else◌, ◌=?◌, ◌≤?◌}
 use Rattle.spelling.specs.Spelling.{most, digit?, digits, all_digits, decimal, no_number, number_of, same}
 
 -- ── A number ───────────────────────────────────────────────────────────────────────────────────────────────────────────────
@@ -23,13 +22,13 @@ module _ (c : ℕ) where
 
 -- a number that is too large stays so
 large_case : (u c : ℕ) (l : List ℕ) (b : Bool) → ((v : ℕ) → most < v → number_of (digits v l) ≡ no_number (all_digits l)) → most < u
-    → number_of (if b then digits (u * 10 + (c - 48)) l else none) ≡ no_number (if b then all_digits l else false)
-unfolding if◌then◌else◌
+    → number_of (when b then digits (u * 10 + (c - 48)) l else none) ≡ no_number (when b then all_digits l else false)
+unfolding when◌then◌else◌
 large_case u c l true ih h = ih (u * 10 + (c - 48)) (omega arith)
 large_case u c l false ih h = refl
 
 large_rest : (l : List ℕ) (u : ℕ) → most < u → number_of (digits u l) ≡ no_number (all_digits l)
-unfolding digits all_digits if◌then◌else◌
+unfolding digits all_digits when◌then◌else◌
 large_rest [] u h = rw (lt-leb u most h)
 large_rest (c ∷ l) u h = large_case u c l (digit? c) (λ v k. large_rest l v k) h
 
@@ -38,11 +37,11 @@ module _ (w : List ℕ) (i : ℕ) where
   here h = rw (add-one, drop-cons w i 0)
 
   pub all_more : i < length w → digit? (get_or w i 0) ≡ true → all_digits (drop i w) ≡ all_digits (drop (i + 1) w)
-  unfolding all_digits if◌then◌else◌
+  unfolding all_digits when◌then◌else◌
   all_more h e = ap all_digits (here h) ∙ rw e
 
   pub all_stop : i < length w → digit? (get_or w i 0) ≡ false → all_digits (drop i w) ≡ false
-  unfolding all_digits if◌then◌else◌
+  unfolding all_digits when◌then◌else◌
   all_stop h e = ap all_digits (here h) ∙ rw e
 
   pub all_end : length w ≤ i → all_digits (drop i w) ≡ true
@@ -51,16 +50,16 @@ module _ (w : List ℕ) (i : ℕ) where
 
 module _ (w : List ℕ) (v i : ℕ) where
   pub digit_more : i < length w → digit? (get_or w i 0) ≡ true → digits v (drop i w) ≡ digits (v * 10 + (get_or w i 0 - 48)) (drop (i + 1) w)
-  unfolding digits if◌then◌else◌
+  unfolding digits when◌then◌else◌
   digit_more h e = ap (digits v) (here w i h) ∙ rw e
 
   no_digits : i < length w → digit? (get_or w i 0) ≡ false → digits v (drop i w) ≡ none
-  unfolding digits if◌then◌else◌
+  unfolding digits when◌then◌else◌
   no_digits h e = ap (digits v) (here w i h) ∙ rw e
 
   -- a word that is not empty
   some_word : digits 0 w ≡ digits v (drop i w) → (length w ≡ 0 → ⊥) → number_of (digits v (drop i w)) ≡ number_of (decimal w)
-  unfolding decimal if◌then◌else◌
+  unfolding decimal when◌then◌else◌
   some_word k e = sym (rw (ne_eqb (length w) 0 e) (ap number_of k))
 
   pub no_number_lem : digits 0 w ≡ digits v (drop i w) → i < length w → digit? (get_or w i 0) ≡ false → no_number false ≡ number_of (decimal w)
@@ -74,30 +73,30 @@ module _ (w : List ℕ) (v i : ℕ) where
 
   pub a_number : digits 0 w ≡ digits v (drop i w) → length w ≤ i → (length w ≡ 0 → ⊥) → v ≤ most
       → record { good = true; is_large = false; value = v } ≡ number_of (decimal w)
-  unfolding digits if◌then◌else◌
+  unfolding digits when◌then◌else◌
   a_number k h e g =
       let f : digits v (drop i w) ≡ some v = ap (digits v) (drop_of_length-le w {i = i} h) in
       sym (rw (le-leb v most g)) ∙ sym (ap number_of f) ∙ some_word k e
 
 pub no_word : (w : List ℕ) → length w ≡ 0 → no_number false ≡ number_of (decimal w)
-unfolding decimal if◌then◌else◌
+unfolding decimal when◌then◌else◌
 no_word w e = sym (rw (eq-eqb (length w) 0 e))
 
 -- ── A text ─────────────────────────────────────────────────────────────────────────────────────────────────────────────────
 
 same_self : (a : List ℕ) → same a a ≡ true
-unfolding same if◌then◌else◌
+unfolding same when◌then◌else◌
 same_self [] = refl
 same_self (x ∷ a) = rw (eq-eqb x x refl) (same_self a)
 
 same_equal : (a b : List ℕ) → same a b ≡ true → a ≡ b
-unfolding same if◌then◌else◌
+unfolding same when◌then◌else◌
 same_equal [] [] e = refl
 same_equal [] (y ∷ b) e = absurd (false≢true e)
 same_equal (x ∷ a) [] e = absurd (false≢true e)
 same_equal (x ∷ a) (y ∷ b) e = go (x =? y) refl e (same_equal a b)
   where
-    go : (t : Bool) → (x =? y) ≡ t → (if t then same a b else false) ≡ true → (same a b ≡ true → a ≡ b) → (x ∷ a) ≡ (y ∷ b)
+    go : (t : Bool) → (x =? y) ≡ t → (when t then same a b else false) ≡ true → (same a b ≡ true → a ≡ b) → (x ∷ a) ≡ (y ∷ b)
     go true q k ih = ap (λ (z : ℕ). z ∷ a) (eqb-true x y q) ∙ ap (λ (l : List ℕ). y ∷ l) (ih k)
     go false q k ih = absurd (false≢true k)
 

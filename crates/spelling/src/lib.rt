@@ -1,9 +1,11 @@
 // What a word spells: a number in decimal.
+#![tactic(auto)]
+
 ghost use Rattle.std.specs.Prelude.{◌≡◌, ◌≤◌, length, drop};
 ghost use Rattle.spelling.specs.Spelling.{all_digits, decimal, no_number, number_of};
 
 // Where `good`, a number; where `is_large`, one above 64 bits.
-#[derive(Drop)]
+#[derive(Clone, Copy)]
 pub struct Number {
     pub good: bool,
     pub is_large: bool,

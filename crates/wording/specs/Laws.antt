@@ -1,5 +1,5 @@
 -- One law for each exit, over variables.
-use Rattle.std.specs.Prelude.{◌≡◌, refl, Bool, true, ◌&&◌, ◌||◌, ◌⊎◌, ℕ, zero, suc, ◌+◌, ◌-◌, ◌≤◌, ◌<◌, min, length, take, drop, get_or, set}
+use Rattle.std.specs.Prelude.{◌≡◌, refl, Bool, true, ◌&&◌, ◌||◌, ◌⊎◌, ℕ, suc, ◌+◌, ◌≤◌, ◌<◌, min, length, take, drop, get_or, set}
 use Rattle.std.proofs.Math.Path.{sym, ap}
 use Rattle.std.proofs.Common.{◌∙◌, inl, inr, arith, add-one, length-set, length-append, take-append-drop, take-suc, take_all, take_at, drop-cons, take-take}
 use Rattle.std.proofs.Math.Bool.{false, not}
@@ -10,7 +10,7 @@ use borrow.Author.Tests.{eq-eqb, ne_eqb, lt-ltb, le-ltb, ltb-true, ltb-false}
 use Rattle.std.proofs.Math.ListN.{length-take}
 use Rattle.std.proofs.lemmas.List.{set_at}
 use Rattle.std.proofs.Math.Seq.{take-length}
-use Rattle.definition.specs.Words.{if◌then◌else◌, ◌<?◌, ◌=?◌, ◌∷ʳ◌}
+use Rattle.definition.specs.Words.{when◌then◌else◌, ◌<?◌, ◌=?◌}
 use Rattle.definition.specs.Laws.{no_length}
 use Rattle.notation.specs.declared.Place.{Place}
 use Rattle.notation.specs.declared.Place.TheVariants as at
@@ -18,7 +18,7 @@ use Rattle.notation.specs.declared.Expected.{Expected}
 use Rattle.notation.specs.Notation.{expected_at, takes}
 use Rattle.wording.specs.declared.Line.{Line}
 use Rattle.wording.specs.declared.Ended.{Ended}
-use Rattle.wording.specs.Wording.{blank?, hash, word_most, Reading, reading, wrong?, word_takes, behind, end_word, grown, closed, reads, read_all, ended}
+use Rattle.wording.specs.Wording.{blank?, hash, word_most, Reading, reading, wrong?, word_takes, end_word, grown, closed, reads, read_all, ended}
 use Rattle.wording.specs.Held.{Held, view_of, left, Stands}
 
 -- ── Bytes ──────────────────────────────────────────────────────────────────────────────────────────────────────────────────
@@ -54,24 +54,24 @@ not_wrong (at.Wrong x) h = absurd (h x refl)
 
 module _ (p : Place) (w : List ℕ) where
   pub takes_long : (x : Expected) → x ≡ expected_at p → 21 ≤ length w → at.Wrong x ≡ word_takes p w
-  unfolding word_takes if◌then◌else◌
+  unfolding word_takes when◌then◌else◌
   takes_long x e h = rw (e, lt-ltb word_most (length w) (omega arith))
 
   pub takes_short : (q : Place) → q ≡ takes p w → length w < 21 → q ≡ word_takes p w
-  unfolding word_takes if◌then◌else◌
+  unfolding word_takes when◌then◌else◌
   takes_short q e h = e ∙ sym (rw (le-ltb word_most (length w) (omega arith)))
 
   pub no_word : length w ≡ 0 → left w (record { place = p; length = 0; is_over = false }) ≡ end_word p w
-  unfolding end_word if◌then◌else◌
+  unfolding end_word when◌then◌else◌
   no_word e = sym (rw (eq-eqb (length w) 0 e) (ap (λ (v : List ℕ). reading p v false) (no_length w e)))
 
   module _ (n : length w ≡ 0 → ⊥) (q : Place) (e : q ≡ word_takes p w) where
     pub word_wrong : true ≡ wrong? q → left w (record { place = q; length = length w; is_over = true }) ≡ end_word p w
-    unfolding end_word if◌then◌else◌
+    unfolding end_word when◌then◌else◌
     word_wrong t = sym (rw (ne_eqb (length w) 0 n, ← e, ← t, take-length w))
 
     pub word_right : false ≡ wrong? q → left w (record { place = q; length = 0; is_over = false }) ≡ end_word p w
-    unfolding end_word if◌then◌else◌
+    unfolding end_word when◌then◌else◌
     word_right t = sym (rw (ne_eqb (length w) 0 n, ← e, ← t))
 
 -- ── A byte ─────────────────────────────────────────────────────────────────────────────────────────────────────────────────
@@ -83,16 +83,16 @@ or_blank false false e h = absurd (false≢true (sym e))
 
 module _ (p : Place) (w : List ℕ) (over : Bool) (c : ℕ) where
   pub reads_over : over ≡ true → left w (record { place = p; length = length w; is_over = true }) ≡ reads (reading p w over) c
-  unfolding reads if◌then◌else◌
+  unfolding reads when◌then◌else◌
   reads_over o = sym (rw (o, take-length w))
 
   module _ (o : over ≡ false) (e : Ended) (k : left w e ≡ end_word p w) where
     pub reads_hash : c ≡ 35 → left w (record { place = e.place; length = e.length; is_over = true }) ≡ reads (reading p w over) c
-    unfolding reads if◌then◌else◌
+    unfolding reads when◌then◌else◌
     reads_hash h = ap closed k ∙ sym (rw (o, eq-eqb c 35 h))
 
     pub reads_blank : (c ≡ 35 → ⊥) → (not over && not (c =? hash || blank? c)) ≡ false → left w e ≡ reads (reading p w over) c
-    unfolding reads if◌then◌else◌
+    unfolding reads when◌then◌else◌
     reads_blank h b =
         let n : not (c =? hash || blank? c) ≡ false = rw o at b in
         k ∙ sym (rw (o, ne_eqb c 35 h, or_blank (c =? hash) (blank? c) n (ne_eqb c 35 h)))
@@ -134,8 +134,8 @@ put_grown w n c h k = go (n <? 21) refl
         ap (λ (i : ℕ). take i (set w n c)) m ∙ rw g s
 
 -- a byte of a word
-part_case : (o a b : Bool) (x y z u : Reading) → (not o && not (a || b)) ≡ true → (if o then x else if a then y else if b then z else u) ≡ u
-unfolding if◌then◌else◌
+part_case : (o a b : Bool) (x y z u : Reading) → (not o && not (a || b)) ≡ true → (when o then x else when a then y else when b then z else u) ≡ u
+unfolding when◌then◌else◌
 part_case false false false x y z u e = refl
 part_case false false true x y z u e = absurd (false≢true e)
 part_case false true b x y z u e = absurd (false≢true e)
@@ -201,12 +201,12 @@ turning_end l bytes p w n over i t h = record {
 
 module _ (l : Line) (h : Held l) where
   pub ended_over : l.is_over ≡ true → Stands l (ended (view_of l))
-  unfolding ended if◌then◌else◌
+  unfolding ended when◌then◌else◌
   ended_over e = record { held = h; is = sym (rw e) }
 
   pub ended_word : (e : Ended) → l.is_over ≡ false → left (take l.length l.word) e ≡ end_word l.place (take l.length l.word) → e.length ≤ length (take l.length l.word)
       → Stands (record { place = e.place; word = l.word; length = e.length; is_over = e.is_over }) (ended (view_of l))
-  unfolding ended if◌then◌else◌
+  unfolding ended when◌then◌else◌
   ended_word e o k g =
       let m : e.length ≤ l.length = omega (arith, g, length-take l.length l.word) in
       record {

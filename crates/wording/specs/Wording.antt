@@ -1,6 +1,6 @@
 -- A line's bytes as words: blanks part them, and # begins a comment.
 use Rattle.std.specs.Prelude.{Bool, true, false, ◌||◌, List, [], ◌∷◌, ℕ, ◌+◌, length, take}
-use Rattle.definition.specs.Words.{if◌then◌else◌, ◌<?◌, ◌=?◌, ◌∷ʳ◌}
+use Rattle.definition.specs.Words.{when◌then◌else◌, ◌<?◌, ◌=?◌, ◌∷ʳ◌}
 use Rattle.notation.specs.declared.Place.{Place}
 use Rattle.notation.specs.declared.Place.TheVariants as at
 use Rattle.notation.specs.declared.Said.{Said}
@@ -49,14 +49,14 @@ wrong? (at.Wrong x) = true
 
 -- a longer word than any is none
 unfoldable pub word_takes : Place → List ℕ → Place
-word_takes p w = if word_most <? length w then at.Wrong (expected_at p) else takes p w
+word_takes p w = when word_most <? length w then at.Wrong (expected_at p) else takes p w
 
 abbrev pub behind : List ℕ → Place → Reading
-behind w p = if wrong? p then reading p w true else reading p [] false
+behind w p = when wrong? p then reading p w true else reading p [] false
 
 -- the word ends here, if there is one
 unfoldable pub end_word : Place → List ℕ → Reading
-end_word p w = if length w =? 0 then reading p w false else behind w (word_takes p w)
+end_word p w = when length w =? 0 then reading p w false else behind w (word_takes p w)
 
 -- one byte more of a word that is too long changes nothing
 abbrev pub grown : List ℕ → ℕ → List ℕ
@@ -68,9 +68,9 @@ closed r = reading r.place r.word true
 -- one byte more
 unfoldable pub reads : Reading → ℕ → Reading
 reads r c =
-    if r.over then r else
-    if c =? hash then closed (end_word r.place r.word) else
-    if blank? c then end_word r.place r.word else
+    when r.over then r else
+    when c =? hash then closed (end_word r.place r.word) else
+    when blank? c then end_word r.place r.word else
     reading r.place (grown r.word c) false
 
 unfoldable pub read_all : Reading → List ℕ → Reading
@@ -79,7 +79,7 @@ read_all r (c ∷ l) = read_all (reads r c) l
 
 -- the line ends here
 unfoldable pub ended : Reading → Reading
-ended r = if r.over then r else end_word r.place r.word
+ended r = when r.over then r else end_word r.place r.word
 
 -- what a line says, without its newline
 unfoldable pub said_by : List ℕ → Said

@@ -1,4 +1,6 @@
 // A line of a day in words, read byte by byte in pieces of any cut, without end in length: only the word under way is held.
+#![tactic(auto)]
+
 ghost use Rattle.std.specs.Prelude.{◌≡◌, false, not, ◌&&◌, ◌||◌, ◌≤◌, min, length, take};
 ghost use Rattle.definition.specs.Words.{◌=?◌};
 ghost use Rattle.notation.specs.Notation.{says};
@@ -14,7 +16,7 @@ pub const WORD: usize = 21;
 const CELLS: usize = WORD + 1;
 
 // A line under way: where its reading stands, the word that has not ended, and whether the rest is not looked at.
-#[derive(Drop)]
+#[derive(Clone, Copy)]
 pub struct Line {
     pub place: Place,
     pub word: [u8; CELLS],
@@ -74,7 +76,7 @@ fn word_takes(p: Place, w: &[u8]) -> Place
 }
 
 // Where the reading stands behind a word, how much of the word is kept, and whether the rest is not looked at.
-#[derive(Drop)]
+#[derive(Clone, Copy)]
 struct Ended {
     place: Place,
     length: usize,

@@ -1,6 +1,6 @@
 -- What a word asks of a replay.
-use Rattle.std.specs.Prelude.{◌≡◌, Bool, true, false, List, [], ◌∷◌, ◌⊎◌, ℕ, ◌+◌, length}
-use Rattle.definition.specs.Words.{if◌then◌else◌, ◌=?◌}
+use Rattle.std.specs.Prelude.{◌≡◌, true, false, List, [], ◌∷◌, ◌⊎◌, ℕ, ◌+◌, length}
+use Rattle.definition.specs.Words.{when◌then◌else◌, ◌=?◌}
 use Rattle.arguments.specs.declared.Asked.{Asked}
 use Rattle.spelling.specs.declared.Number.{Number}
 use Rattle.spelling.specs.Spelling.{most, decimal, number_of, same, spelt}
@@ -32,10 +32,10 @@ module _ (a : Asked) where
 -- the words so far, and the word that is argument i
 unfoldable pub asked : Asked → (i : ℕ) → List ℕ → Asked
 asked a i w =
-    if a.is_number then with_budget a (number_of (decimal w))
-    else if same w budget_word then before_number a
-    else if same w used_word then with_used a
-    else if a.file =? 0 then with_file a i
+    when a.is_number then with_budget a (number_of (decimal w))
+    else when same w budget_word then before_number a
+    else when same w used_word then with_used a
+    else when a.file =? 0 then with_file a i
     else bad a
 
 -- an argument that some word is, or that can't be had
@@ -53,11 +53,11 @@ nothing = record { good = true; is_large = false; budget = most; is_used = false
 -- all words, the last one first, up to a bad one
 unfoldable pub said : List (List ℕ) → Asked
 said [] = nothing
-said (w ∷ l) = if (said l).good then asked (said l) (length l + 1) w else said l
+said (w ∷ l) = when (said l).good then asked (said l) (length l + 1) w else said l
 
 -- no number came behind --budget
 abbrev pub closed : Asked → Asked
-closed a = if a.is_number then bad a else a
+closed a = when a.is_number then bad a else a
 
 -- what some words ask, or what they do where the argument behind them can't be had
 pub record Reads (r : Asked) : Type 0 where

@@ -1,42 +1,40 @@
 -- One law for each exit of the reading of a word.
-use Rattle.std.specs.Prelude.{◌≡◌, refl, Bool, true, false, ◌&&◌, List, [], ◌∷◌, ◌⊎◌, ℕ, ◌+◌, ◌-◌, ◌*◌, ◌≤◌, ◌<◌, length, drop, get_or}
+use Rattle.std.specs.Prelude.{◌≡◌, refl, Bool, true, false, List, [], ◌∷◌, ℕ, ◌+◌, length}
 use Rattle.std.proofs.Math.Path.{sym, ap}
-use Rattle.std.proofs.Common.{◌∙◌, inr, arith, add-one, drop_of_length-le, drop-cons}
+use Rattle.std.proofs.Common.{◌∙◌, inr, arith}
 use Rattle.std.proofs.lemmas.Bool.{false≢true}
-use Rattle.std.proofs.Math.Option.{none, some}
 use Rattle.std.proofs.Math.Logic.{inl}
-use borrow.Author.Tests.{eq-eqb, ne_eqb, eqb-true, le-leb, lt-leb}
-use Rattle.definition.specs.Booleans.{no_first, no_second}
-use Rattle.definition.specs.Words.{if◌then◌else◌, ◌=?◌, ◌≤?◌}
+use borrow.Author.Tests.{eq-eqb, ne_eqb}
+use Rattle.definition.specs.Words.{when◌then◌else◌}
 use Rattle.arguments.specs.declared.Asked.{Asked}
 use Rattle.spelling.specs.declared.Number.{Number}
 use Rattle.spelling.specs.Spelling.{decimal, number_of, same}
-use Rattle.arguments.specs.Asked.{budget_word, used_word, with_budget, before_number, with_used, with_file, bad, asked, Word, Takes, nothing, said, closed, Reads}
+use Rattle.arguments.specs.Asked.{budget_word, used_word, with_budget, before_number, with_used, with_file, bad, asked, Takes, nothing, said, closed, Reads}
 
 -- ── A word ─────────────────────────────────────────────────────────────────────────────────────────────────────────────────
 
 module _ (a : Asked) (i : ℕ) (w : List ℕ) where
   pub asked_number : (n : Number) → a.is_number ≡ true → n ≡ number_of (decimal w) → with_budget a n ≡ asked a i w
-  unfolding asked if◌then◌else◌
+  unfolding asked when◌then◌else◌
   asked_number n e k = ap (with_budget a) k ∙ sym (rw e)
 
   module _ (e : a.is_number ≡ false) where
     pub asked_budget : true ≡ same w budget_word → before_number a ≡ asked a i w
-    unfolding asked if◌then◌else◌
+    unfolding asked when◌then◌else◌
     asked_budget b = sym (rw (e, ← b))
 
     module _ (b : false ≡ same w budget_word) where
       pub asked_used : true ≡ same w used_word → with_used a ≡ asked a i w
-      unfolding asked if◌then◌else◌
+      unfolding asked when◌then◌else◌
       asked_used u = sym (rw (e, ← b, ← u))
 
       module _ (u : false ≡ same w used_word) where
         pub asked_file : a.file ≡ 0 → with_file a i ≡ asked a i w
-        unfolding asked if◌then◌else◌
+        unfolding asked when◌then◌else◌
         asked_file f = sym (rw (e, ← b, ← u, eq-eqb a.file 0 f))
 
         pub asked_bad : (a.file ≡ 0 → ⊥) → bad a ≡ asked a i w
-        unfolding asked if◌then◌else◌
+        unfolding asked when◌then◌else◌
         asked_bad f = sym (rw (e, ← b, ← u, ne_eqb a.file 0 f))
 
 -- ── All words ──────────────────────────────────────────────────────────────────────────────────────────────────────────────
@@ -54,15 +52,15 @@ bad_itself a e =
     (sym e)
 
 closed_bad : (a : Asked) → a.good ≡ false → a ≡ closed a
-unfolding if◌then◌else◌
+unfolding when◌then◌else◌
 closed_bad a e = go a.is_number
   where
-    go : (b : Bool) → a ≡ (if b then bad a else a)
+    go : (b : Bool) → a ≡ (when b then bad a else a)
     go true = sym (bad_itself a e)
     go false = refl
 
-if_so : (b : Bool) (x y : Asked) → b ≡ true → (if b then x else y) ≡ x
-unfolding if◌then◌else◌
+if_so : (b : Bool) (x y : Asked) → b ≡ true → (when b then x else y) ≡ x
+unfolding when◌then◌else◌
 if_so b x y e = rw e
 
 said_good : (w : List ℕ) (l : List (List ℕ)) → (said l).good ≡ true → said (w ∷ l) ≡ asked (said l) (length l + 1) w
@@ -87,11 +85,11 @@ module _ (a : Asked) (i : ℕ) (s : Saying a i) where
 
   -- --budget is the last word
   pub saying_open : a.is_number ≡ true → Reads (bad a)
-  unfolding if◌then◌else◌
+  unfolding when◌then◌else◌
   saying_open e = record { words = s.words; are = inl (sym (rw e) ∙ ap closed s.is) }
 
   pub saying_all : a.is_number ≡ false → Reads a
-  unfolding if◌then◌else◌
+  unfolding when◌then◌else◌
   saying_all e = record { words = s.words; are = inl (sym (rw e) ∙ ap closed s.is) }
 
 pub saying_none : Saying nothing 1

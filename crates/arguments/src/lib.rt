@@ -1,10 +1,20 @@
 // What the arguments of a replay ask: [--budget N] [--used] [FILE].
+#![tactic(auto)]
+
 ghost use Rattle.std.specs.Prelude.{◌≡◌};
 ghost use Rattle.arguments.specs.Asked.{asked, Takes, Reads};
 
+use std::env::{Env, FillError};
+use std::io::Error;
+
+// The system's numbers for a name that is too long, and for an argument that isn't one.
+const ENAMETOOLONG: i32 = 36;
+
+const EINVAL: i32 = 22;
+
 // What the words so far ask: the budget, whether the frames used are told, and which argument is the file, 0 for none; and
 // whether the budget's number comes next. Where not `good`, whether the number was too large.
-#[derive(Drop)]
+#[derive(Clone, Copy)]
 pub struct Asked {
     pub good: bool,
     pub is_large: bool,
@@ -43,23 +53,33 @@ fn take_word(a: Asked, i: usize, word: &[u8]) -> Asked
     r
 }
 
+// Why an argument can't be had.
+pub fn tell(e: FillError) {
+    let number = match e {
+        FillError::TooLong => ENAMETOOLONG,
+        FillError::NotPresent => EINVAL,
+    };
+    standard::fail(b"argument", &Error::from_raw_os_error(number));
+}
+
 // The argument i, whatever it is, or a refusal where it can't be had.
-fn take_argument(a: Asked, i: usize) -> Asked
+fn take_argument<E: Env>(env: &E, a: Asked, i: usize) -> Asked
     ensures { Takes a i result }
 {
     let mut r = a;
     let mut word = io::buffer();
-    let n = os::arg(i, &mut word);
-    if os::errno() != 0 {
-        os::fail(b"argument");
-        r.good = false;
-        return r;
+    match env.arg(i, &mut word) {
+        Ok(n) => take_word(a, i, &word[..n]),
+        Err(e) => {
+            tell(e);
+            r.good = false;
+            r
+        }
     }
-    take_word(a, i, &word[..n])
 }
 
 // What all of them ask; without a budget, all frames are taken.
-pub fn read() -> Asked
+pub fn read<E: Env>(env: &E) -> Asked
     ensures { Reads result }
 {
     let mut a = Asked {
@@ -70,10 +90,10 @@ pub fn read() -> Asked
         file: 0,
         is_number: false,
     };
-    let n = os::arg_count();
+    let n = standard::arg_count(env);
     let mut i: usize = 1;
     while i < n {
-        a = take_argument(a, i);
+        a = take_argument(env, a, i);
         if !a.good {
             return a;
         }

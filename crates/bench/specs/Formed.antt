@@ -6,7 +6,7 @@ use Rattle.definition.specs.declared.Options.{Options}
 use Rattle.slots.specs.declared.Head.{Head}
 use Rattle.refinement.specs.Stands.{Formed}
 use Rattle.refinement.specs.Alike.{fresh_head}
-use Rattle.refinement.specs.Formed.{over_blank, fresh_parts, fresh_formed}
+use Rattle.refinement.proofs.Formed.{over_blank, fresh_parts, fresh_formed}
 
 pub starts_formed : (o : Options) (h : Head) (b : Bool) → h ≡ fresh_head o → b ≡ in_range o → not b ≡ false → Formed (over_blank h)
 starts_formed o h false e r t = absurd (true≢false t)

@@ -1,11 +1,13 @@
 // The pool without text, for the benchmark: frames on standard input, 24 bytes each, the first of them the options. Tells the
 // frames refused and the records written.
+#![tactic(auto)]
+
 use definition::{Options, QUEUE, ROOM, SLOTS};
 use frame_loop::FRAME;
-use libc::{STDIN_FILENO, STDOUT_FILENO};
 use pool::Pool;
 use reading::Given;
 use slots::{NUMBERS, Numbers, STATES, States, Times, Waiters};
+use standard::{STDIN_FILENO, STDOUT_FILENO};
 
 // So many bytes are read at once.
 const CHUNK: usize = 2560 * FRAME;

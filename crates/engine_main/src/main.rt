@@ -1,4 +1,6 @@
 // The engine without text, for the benchmark.
+#![tactic(auto)]
+
 fn main() {
     bench::run(false);
 }

@@ -8,10 +8,12 @@
 //   d        48 digits: the byte 0 tells what is damaged, the byte 1 where, and the last eight are what is put there
 //   k and b  the pool is kept, and the kept one comes back
 //   c        the pool's counts
+#![tactic(auto)]
+
 use definition::{LINE, RECORD, ROOM, ROOM_LINES};
-use libc::{STDIN_FILENO, STDOUT_FILENO};
 use pool::Pool;
 use slots::Outcome;
+use standard::{STDIN_FILENO, STDOUT_FILENO};
 
 // ── what is said ──
 

@@ -1,8 +1,10 @@
 // The smallest host: a pool of the default options is marked ready, and the records that this writes are counted.
+#![tactic(auto)]
+
 use definition::ROOM;
-use libc::STDOUT_FILENO;
 use pool::Pool;
 use slots::Outcome;
+use standard::STDOUT_FILENO;
 
 fn main() {
     let made = Pool::from_bytes(&[0u8; 24]);

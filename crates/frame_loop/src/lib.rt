@@ -2,12 +2,14 @@
 //
 // A program asks for one of two ways, and the compiler leaves the other out of it. That is why there are two programs: beside the
 // entry point the engine would not be inlined into the loop, and take 1.6 to 3 times as long.
+#![tactic(auto)]
+
 ghost use Rattle.slots.specs.View.{given};
 ghost use Rattle.refinement.specs.Stands.{Formed};
 
-use libc::STDIN_FILENO;
 use pool::Pool;
 use slots::{Head, Numbers, States, Times, Waiters};
+use standard::STDIN_FILENO;
 use tally::Tally;
 
 pub const FRAME: usize = 24;

@@ -1,7 +1,9 @@
 // For the benchmark: frames of 24 bytes each from standard input, written as the lines of a day by `write_day`, piece by piece; the
 // options are all 0. Where a frame is no event it stops.
+#![tactic(auto)]
+
 use definition::{DAY_LINE, FRAME, Options};
-use libc::{STDIN_FILENO, STDOUT_FILENO};
+use standard::{STDIN_FILENO, STDOUT_FILENO};
 use writing::Written;
 
 const FRAMES: usize = 512;

@@ -4,30 +4,51 @@
 //
 // A budget of N takes at most N frames; without one, all are taken. --used tells the frames used on standard error, once the whole
 // log is written.
+#![tactic(auto)]
+
 ghost use Rattle.std.specs.Prelude.{true, ◌≡◌};
 ghost use Rattle.stream.specs.Streams.{Plays};
 
 use arguments::Asked;
-use libc::{STDERR_FILENO, STDIN_FILENO};
+use standard::STDERR_FILENO;
+use std::env::Env;
+use std::fs::File;
+use std::io::{Error, ErrorKind};
 use stream::Played;
 
+// The file of a name, which has to be text.
+fn open(rt: &HostRuntime, path: &[u8]) -> std::io::Result<File> {
+    match std::str::from_utf8(path) {
+        Ok(name) => File::open(rt, name),
+        Err(_) => Err(Error::new(ErrorKind::InvalidFilename, "the name is not UTF-8")),
+    }
+}
+
 // The day that the arguments ask for: that of the file, or of standard input.
-fn replay(a: Asked) -> Played
+fn replay(rt: &HostRuntime, a: Asked) -> Played
     ensures { result.good ≡ true → Plays a.budget result }
 {
     if a.file == 0 {
-        return stream::play(STDIN_FILENO, b"standard input", a.budget);
+        return stream::play(rt, &mut rt.stdin(), b"standard input", a.budget);
     }
     let mut path = io::buffer();
-    let n = os::arg(a.file, &mut path);
-    let fd = os::open_read(&path[..n]);
-    if fd < 0 {
-        os::fail(&path[..n]);
-        return stream::broken();
+    let n = match rt.arg(a.file, &mut path) {
+        Ok(n) => n,
+        Err(e) => {
+            arguments::tell(e);
+            return stream::broken();
+        }
+    };
+    match open(rt, &path[..n]) {
+        Ok(file) => {
+            let mut day = file;
+            stream::play(rt, &mut day, &path[..n], a.budget)
+        }
+        Err(e) => {
+            standard::fail(&path[..n], &e);
+            stream::broken()
+        }
     }
-    let r = stream::play(fd, &path[..n], a.budget);
-    libc::close(fd);
-    r
 }
 
 fn tell_used(used: u64) {
@@ -50,13 +71,13 @@ fn tell_usage(is_large: bool) {
     );
 }
 
-fn main() {
-    let a = arguments::read();
+fn main(rt: HostRuntime) {
+    let a = arguments::read(&rt);
     if !a.good {
         tell_usage(a.is_large);
         return;
     }
-    let r = replay(a);
+    let r = replay(&rt, a);
     if r.good {
         if a.is_used {
             tell_used(r.used);

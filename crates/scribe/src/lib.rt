@@ -1,5 +1,7 @@
-// A text in words behind a descriptor, taken whole: its mistakes are told, and where it is to be written, its day is sent. Bytes are
+// A text in words that a reader gives, taken whole: its mistakes are told, and where it is to be written, its day is sent. Bytes are
 // counted on both sides, so that a contract can tell one left out or written twice.
+#![tactic(auto)]
+
 ghost use Rattle.std.specs.Prelude.{true, ◌≡◌, ◌+◌, ◌≤◌, length};
 ghost use Rattle.draft.specs.Draft.{faults_told};
 ghost use Rattle.laying.specs.Laying.{line_room};
@@ -9,13 +11,14 @@ ghost use Rattle.scribe.specs.Passing.{Drains, Ends, Passes};
 use draft::{Draft, Step};
 use heading::Told;
 use sending::Sent;
+use std::io::Read;
 
 // So many bytes more: sent, where the day is written.
-fn deliver(is_writing: bool, before: u64, bytes: &[u8]) -> Sent
+fn deliver<P: Print>(to: &P, is_writing: bool, before: u64, bytes: &[u8]) -> Sent
     ensures { result.good ≡ true → result.count ≡ before + length bytes.now }
 {
     if is_writing {
-        return sending::put(before, bytes);
+        return sending::put(to, before, bytes);
     }
     let n = bytes.len() as u64;
     if n <= u64::MAX - before {
@@ -71,7 +74,7 @@ fn note(is_writing: bool, before: u64, s: Step) -> Sent
 }
 
 // What a piece of the text leaves.
-#[derive(Drop)]
+#[derive(Clone, Copy)]
 struct Drained {
     pub good: bool,
     pub draft: Draft,
@@ -80,7 +83,8 @@ struct Drained {
 }
 
 // All of a piece.
-fn drain(
+fn drain<P: Print>(
+    to: &P,
     is_writing: bool,
     from: Draft,
     mistakes: u64,
@@ -99,7 +103,7 @@ fn drain(
     while at < e {
         let s = draft::go_on(d, &text[at..e], out);
         let w = s.written;
-        let k = deliver(is_writing, count, &out[..w]);
+        let k = deliver(to, is_writing, count, &out[..w]);
         let n = note(is_writing, m, s);
         if !k.good {
             return Drained {
@@ -131,7 +135,7 @@ fn drain(
 }
 
 // Where `good`, the whole text: its bytes, its mistakes, and the bytes of its day.
-#[derive(Drop)]
+#[derive(Clone, Copy)]
 pub struct Passed {
     pub good: bool,
     pub read: u64,
@@ -152,13 +156,21 @@ fn broken() -> Passed
 }
 
 // The text's end, behind `read` bytes.
-fn end(is_writing: bool, d: Draft, read: u64, mistakes: u64, sent: u64, out: &mut [u8]) -> Passed
+fn end<P: Print>(
+    to: &P,
+    is_writing: bool,
+    d: Draft,
+    read: u64,
+    mistakes: u64,
+    sent: u64,
+    out: &mut [u8],
+) -> Passed
     requires { Ready d × (end_room ≤ length out.old) }
     ensures { result.good ≡ true → Ends d read mistakes sent result }
 {
     let s = draft::finish(d, out);
     let w = s.written;
-    let k = deliver(is_writing, sent, &out[..w]);
+    let k = deliver(to, is_writing, sent, &out[..w]);
     let n = note(is_writing, mistakes, s);
     if !n.good {
         return broken();
@@ -171,8 +183,8 @@ fn end(is_writing: bool, d: Draft, read: u64, mistakes: u64, sent: u64, out: &mu
     }
 }
 
-// The text behind a descriptor, of which messages speak by name.
-pub fn pass(is_writing: bool, fd: i32, name: &[u8]) -> Passed
+// The text that a reader gives, of which messages speak by name; where it is written, its day goes to `to`.
+pub fn pass<P: Print, R: Read>(to: &P, is_writing: bool, from: &mut R, name: &[u8]) -> Passed
     ensures { result.good ≡ true → Passes result }
 {
     let mut buf = io::large_buffer();
@@ -182,20 +194,21 @@ pub fn pass(is_writing: bool, fd: i32, name: &[u8]) -> Passed
     let mut mistakes: u64 = 0;
     let mut sent: u64 = 0;
     loop {
-        let got = libc::read(fd, &mut buf);
-        if got < 0 {
-            os::fail(name);
-            return broken();
-        }
-        let n = io::count(got, &buf);
+        let n = match from.read(&mut buf) {
+            Ok(n) => n,
+            Err(e) => {
+                standard::fail(name, &e);
+                return broken();
+            }
+        };
         if n == 0 {
-            return end(is_writing, d, read, mistakes, sent, &mut out);
+            return end(to, is_writing, d, read, mistakes, sent, &mut out);
         }
         let more = n as u64;
         if u64::MAX - read < more {
             return broken();
         }
-        let k = drain(is_writing, d, mistakes, sent, &buf[..n], &mut out);
+        let k = drain(to, is_writing, d, mistakes, sent, &buf[..n], &mut out);
         if !k.good {
             return broken();
         }

@@ -1,4 +1,6 @@
 // The entry point without text, for the benchmark.
+#![tactic(auto)]
+
 fn main() {
     bench::run(true);
 }

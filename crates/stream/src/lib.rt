@@ -1,5 +1,7 @@
-// A day from a descriptor to its log on standard output. What is read is taken whole, in as many steps as it needs, and what a
+// A day from a reader to its log on standard output. What is read is taken whole, in as many steps as it needs, and what a
 // step writes goes out before the next. Bytes are counted on both sides, so that a contract can tell one left out or written twice.
+#![tactic(auto)]
+
 ghost use Rattle.std.specs.Prelude.{true, ◌≡◌, ◌≤◌, length};
 ghost use Rattle.first_line.specs.Took.{line_room};
 ghost use Rattle.session.specs.Code.{Ready};
@@ -7,9 +9,10 @@ ghost use Rattle.stream.specs.Streams.{Drains, Ends, Plays};
 
 use sending::put;
 use session::Session;
+use std::io::Read;
 
 // What a piece of the text leaves.
-#[derive(Drop)]
+#[derive(Clone, Copy)]
 struct Drained {
     pub good: bool,
     pub session: Session,
@@ -17,7 +20,7 @@ struct Drained {
 }
 
 // All of a piece.
-fn drain(day: Session, sent: u64, text: &[u8], out: &mut [u8]) -> Drained
+fn drain<P: Print>(to: &P, day: Session, sent: u64, text: &[u8], out: &mut [u8]) -> Drained
     requires { Ready day × (line_room ≤ length out.old) }
     ensures { result.good ≡ true → Drains day sent text.now result.session result.sent }
 {
@@ -29,7 +32,7 @@ fn drain(day: Session, sent: u64, text: &[u8], out: &mut [u8]) -> Drained
         let p = session::go_on(s, &text[at..e], out);
         s = p.session;
         let w = p.written;
-        let k = put(count, &out[..w]);
+        let k = put(to, count, &out[..w]);
         if !k.good {
             return Drained {
                 good: false,
@@ -48,7 +51,7 @@ fn drain(day: Session, sent: u64, text: &[u8], out: &mut [u8]) -> Drained
 }
 
 // Where `good`, a whole day: its bytes, the log's, and the frames used.
-#[derive(Drop)]
+#[derive(Clone, Copy)]
 pub struct Played {
     pub good: bool,
     pub used: u64,
@@ -57,13 +60,13 @@ pub struct Played {
 }
 
 // The text's end, behind `read` bytes.
-fn end(day: Session, read: u64, sent: u64, out: &mut [u8]) -> Played
+fn end<P: Print>(to: &P, day: Session, read: u64, sent: u64, out: &mut [u8]) -> Played
     requires { Ready day × (line_room ≤ length out.old) }
     ensures { result.good ≡ true → Ends day read sent out.old out.new result }
 {
     let k = session::finish(day, out);
     let w = k.written;
-    let s = put(sent, &out[..w]);
+    let s = put(to, sent, &out[..w]);
     Played {
         good: s.good,
         used: k.used,
@@ -84,8 +87,8 @@ pub fn broken() -> Played
     }
 }
 
-// The day behind a descriptor, of which messages speak by name.
-pub fn play(fd: i32, name: &[u8], budget: u64) -> Played
+// The day that a reader gives, of which messages speak by name; its log goes to `to`.
+pub fn play<P: Print, R: Read>(to: &P, from: &mut R, name: &[u8], budget: u64) -> Played
     ensures { result.good ≡ true → Plays budget result }
 {
     let mut buf = io::large_buffer();
@@ -94,20 +97,21 @@ pub fn play(fd: i32, name: &[u8], budget: u64) -> Played
     let mut read: u64 = 0;
     let mut sent: u64 = 0;
     loop {
-        let got = libc::read(fd, &mut buf);
-        if got < 0 {
-            os::fail(name);
-            return broken();
-        }
-        let n = io::count(got, &buf);
+        let n = match from.read(&mut buf) {
+            Ok(n) => n,
+            Err(e) => {
+                standard::fail(name, &e);
+                return broken();
+            }
+        };
         if n == 0 {
-            return end(day, read, sent, &mut out);
+            return end(to, day, read, sent, &mut out);
         }
         let more = n as u64;
         if u64::MAX - read < more {
             return broken();
         }
-        let d = drain(day, sent, &buf[..n], &mut out);
+        let d = drain(to, day, sent, &buf[..n], &mut out);
         if !d.good {
             return broken();
         }

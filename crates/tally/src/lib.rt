@@ -1,11 +1,13 @@
 // What the benchmark's programs count, and how they tell it.
+#![tactic(auto)]
+
 ghost use Rattle.std.specs.Prelude.{◌≡◌};
 ghost use Rattle.tally.specs.Count.{with_one};
 
-use libc::STDOUT_FILENO;
 use slots::Outcome;
+use standard::STDOUT_FILENO;
 
-#[derive(Drop)]
+#[derive(Clone, Copy)]
 pub struct Tally {
     pub refused: u64,
     pub records: u64,

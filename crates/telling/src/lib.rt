@@ -1,8 +1,10 @@
 // What is said of a mistake in a day in words, on standard error: its line, what should have come, and what came.
+#![tactic(auto)]
+
 ghost use Rattle.std.specs.Prelude.{◌≤◌};
 
-use libc::STDERR_FILENO;
 use notation::Expected;
+use standard::STDERR_FILENO;
 use wording::Line;
 
 fn say(text: &[u8]) {

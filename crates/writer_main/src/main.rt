@@ -3,12 +3,14 @@
 // Standard input is a day of 48 digits and a newline each, the first line its options. Each answer is held against the room and the
 // lines that were read, and what was lent must be as it was where nothing is to be written: `WRONG` tells where that is not so. Then
 // comes the day as it was written.
+#![tactic(auto)]
+
 ghost use Rattle.std.specs.Prelude.{◌≤◌, length};
 ghost use Rattle.io.specs.Counts.{IsPrefixLen};
 
 use definition::{DAY_LINE, FRAME, Frame, Options, Refusal};
-use libc::{STDIN_FILENO, STDOUT_FILENO};
 use reading::Given;
+use standard::{STDIN_FILENO, STDOUT_FILENO};
 use writing::Written;
 
 // The most lines of a day. The bytes of their frames and their text are on the stack, which holds 8 MB.
@@ -31,7 +33,7 @@ fn number(x: u64) {
     io::print_decimal(STDOUT_FILENO, x);
 }
 
-#[derive(Drop)]
+#[derive(Clone, Copy)]
 struct Seen {
     short: u64,
     malformed: u64,
@@ -146,7 +148,7 @@ fn is_text(out: &[u8], bytes: &[u8]) -> bool {
 
 // ── What is answered ──
 
-#[derive(Drop)]
+#[derive(Clone, Copy)]
 enum Answer {
     Short,
     Malformed,
@@ -217,7 +219,7 @@ fn counted(c: Seen, a: Answer, room: usize) -> Seen {
 
 // ── Calls ──
 
-#[derive(Drop)]
+#[derive(Clone, Copy)]
 enum Writer {
     Options,
     Event,

@@ -1,23 +1,22 @@
 // Tests of a state: the pool's, and that of an available connection.
 #![tactic(auto)]
 
-ghost use Rattle.std.specs.Prelude.{◌≡◌, ◌<◌, min, length, get_or};
+ghost use Rattle.std.specs.Prelude.{◌≡◌, ◌<◌, min, get_or, Some, None};
 ghost use Rattle.definition.specs.Words.{when◌then◌else◌, ◌<?◌};
 ghost use Rattle.definition.specs.Pool.{slot_count, is_ready, is_closed, stale_in, idle_for, most_age};
-ghost use Rattle.slots.specs.View.{slots_of, order_in};
+ghost use Rattle.definition.specs.declared.ClosedReason.TheVariants.{Idle};
+ghost use Rattle.slots.specs.View.{pool_in};
 ghost use Rattle.slots.specs.Codes.{Examines};
 
-use definition::{MOST_AGE, PoolState};
-use slots::{GENERATIONS, Head, Numbers, ORDER, States, Times};
+use definition::{ClosedReason, MOST_AGE, PoolState};
+use slots::ConnectionPoolWorker;
 
 pub fn is_ready(s: PoolState) -> bool
     ensures { result ≡ is_ready s }
 {
     match s {
-        PoolState::New => false,
-        PoolState::Paused(_) => false,
         PoolState::Ready => true,
-        PoolState::Closed => false,
+        PoolState::New | PoolState::Paused(_) | PoolState::Closed => false,
     }
 }
 
@@ -25,10 +24,8 @@ pub fn is_closed(s: PoolState) -> bool
     ensures { result ≡ is_closed s }
 {
     match s {
-        PoolState::New => false,
-        PoolState::Paused(_) => false,
-        PoolState::Ready => false,
         PoolState::Closed => true,
+        PoolState::New | PoolState::Paused(_) | PoolState::Ready => false,
     }
 }
 
@@ -39,7 +36,7 @@ pub fn is_stale(generation: u32, made: u32) -> bool
     !(made == generation)
 }
 
-// The idle test: the age, where it reaches the limit, else 0.
+// The idle test: the age, where it reaches the limit, else 0, as the definition answers.
 fn idle_for(limit: u64, since: u64, clock: u64) -> u64
     ensures { result ≡ idle_for limit since clock }
 {
@@ -56,13 +53,6 @@ fn idle_for(limit: u64, since: u64, clock: u64) -> u64
     0
 }
 
-// What the test's answer makes of one that is not stale: 1 idle, 0 healthy.
-fn idle_reason(age: u64) -> u8
-    ensures { result ≡ (when 0 <? age then 1 else 0) }
-{
-    (0 < age) as u8
-}
-
 // An age as a record can hold it.
 fn capped(age: u64) -> u32
     ensures { result ≡ min age most_age }
@@ -73,34 +63,42 @@ fn capped(age: u64) -> u32
     age as u32
 }
 
-// An available connection: its slot, why it is closed, and the age that is told then. The reason is 2 stale, else 1 idle, 0 where it is
-// healthy; only an idle one has an age.
+// What the test's answer makes of a connection that is not stale.
+fn idle_reason(age: u64) -> Option<(ClosedReason, u32)>
+    ensures { result ≡ (when 0 <? age then Some (Idle, min age most_age) else None) }
+{
+    if 0 < age {
+        return Some((ClosedReason::Idle, capped(age)));
+    }
+    None
+}
+
+// An available connection: its slot, and where it has perished the reason, and the age that is told.
 #[derive(Clone, Copy)]
 pub struct Examined {
     pub slot: usize,
-    pub reason: u8,
-    pub age: u32,
+    pub perished: Option<(ClosedReason, u32)>,
 }
 
 // The one at place k of the available list.
-pub fn examine(head: Head, numbers: &Numbers, times: &Times, states: &States, k: usize) -> Examined
-    requires { (length (slots_of numbers.now times.now states.now) ≡ slot_count) × (k < slot_count) × (get_or (order_in states.now) k 0 < slot_count) }
-    ensures { Examines head (slots_of numbers.now times.now states.now) (order_in states.now) k result.slot result.reason result.age }
+pub fn examine(worker: &ConnectionPoolWorker, k: usize) -> Examined
+    requires { (k < slot_count) × (get_or worker.now.available k 0 < slot_count) }
+    ensures { Examines (pool_in worker.now) k result.slot result.perished }
 {
-    let i = words::as_index(states[ORDER + k]);
-    let m = head.status;
-    if is_stale(m.generation, numbers[GENERATIONS + i]) {
+    let slot = worker.available[k] as usize;
+    if is_stale(worker.head.status.generation, worker.generations[slot]) {
         return Examined {
-            slot: i,
-            reason: 2,
-            age: 0,
+            slot,
+            perished: Some((ClosedReason::Stale, 0)),
         };
     }
-    let o = head.options;
-    let age = idle_for(o.idle, times[i], head.clock);
+    let age = idle_for(
+        worker.head.options.idle,
+        worker.times[slot],
+        worker.head.clock,
+    );
     Examined {
-        slot: i,
-        reason: idle_reason(age),
-        age: capped(age),
+        slot,
+        perished: idle_reason(age),
     }
 }

@@ -2,7 +2,8 @@
 use Rattle.std.specs.Prelude.{◌≡◌, refl, Bool, true, false, ◌&&◌, ◌||◌, ℕ, ◌≤◌, ◌<◌}
 use Rattle.std.proofs.Common.{ap, true≢false, eqb-true, ltb-true, ltb-false}
 use Rattle.std.proofs.lemmas.Bool.{false≢true, eqb-false}
-use Rattle.definition.specs.Words.{◌=?◌, ◌<?◌}
+use Rattle.std.proofs.lemmas.Bool.Decides.{nat_tests}
+use Rattle.definition.specs.Words.{when◌then◌else◌, ◌=?◌, ◌<?◌}
 
 -- ── A case by a test ───────────────────────────────────────────────────────────────────────────────────────────────────
 
@@ -15,6 +16,21 @@ by_eq a b f g = by_bool (a =? b) (λ e. f (eqb-true a b e)) (λ e. g (eqb-false 
 
 pub by_lt : {A : Type 0} (a b : ℕ) → (a < b → A) → (b ≤ a → A) → A
 by_lt a b f g = by_bool (a <? b) (λ e. f (ltb-true a b e)) (λ e. g (ltb-false a b e))
+
+-- ── Choice ─────────────────────────────────────────────────────────────────────────────────────────────────────────────
+
+pub when_true : {A : Type 0} (b : Bool) (x y : A) → b ≡ true → (when b then x else y) ≡ x
+unfolding when◌then◌else◌
+when_true true x y e = refl
+when_true false x y e = absurd (false≢true e)
+
+pub when_false : {A : Type 0} (b : Bool) (x y : A) → b ≡ false → (when b then x else y) ≡ y
+unfolding when◌then◌else◌
+when_false true x y e = absurd (true≢false e)
+when_false false x y e = refl
+
+-- for `grind`, at goals where the code's tests choose
+pub ruleset choices = (nat_tests, when_true, when_false)
 
 -- ── And ────────────────────────────────────────────────────────────────────────────────────────────────────────────────
 

@@ -1,6 +1,6 @@
 -- Frames, options and records as bytes, all numbers big-endian; bytes as lines of lower-case hexadecimal.
 use Rattle.std.specs.Prelude.{Bool, true, false, List, [], ◌∷◌, ◌++◌, ℕ, ◌+◌, ◌*◌, ◌-◌, ◌/◌, ◌%◌, length, get_or, take}
-use Rattle.std.proofs.Math.Option.{Option, none, some}
+use Rattle.std.specs.Prelude.{Option, None as none, Some as some}
 use Rattle.definition.specs.Words.{when◌then◌else◌, ◌<?◌, ◌=?◌}
 use Rattle.definition.specs.Events.{parts_of}
 use Rattle.definition.specs.Records.{Fields}

@@ -1,6 +1,6 @@
 -- A whole day's text gives its log's text. Any bytes at all are a day.
 use Rattle.std.specs.Prelude.{List, [], ◌∷◌, ◌++◌, ℕ, ◌+◌, ◌%◌, min, length, take}
-use Rattle.std.proofs.Math.Option.{Option, none, some}
+use Rattle.std.specs.Prelude.{Option, None as none, Some as some}
 use Rattle.definition.specs.Words.{when◌then◌else◌, ◌=?◌}
 use Rattle.definition.specs.Pool.{Pool}
 use Rattle.definition.specs.Records.{Record, fields, fields_of}

@@ -2,7 +2,7 @@
 -- refuses as malformed is what the pool does.
 use Rattle.std.specs.Prelude.{◌≡◌, refl, Bool, true, false, List, [], ◌∷◌, ◌++◌, map, ℕ, ◌+◌, ◌*◌, ◌/◌, ◌%◌, ◌≤◌, ◌<◌, length, drop}
 use Rattle.std.proofs.Common.{ap, sym, ◌∙◌, true≢false, append_assoc, arith, length-append, ne_eqb, lt-ltb, le-ltb}
-use Rattle.std.proofs.Math.Option.{Option, none, some}
+use Rattle.std.specs.Prelude.{Option, None as none, Some as some}
 use Rattle.definition.specs.Words.{when◌then◌else◌, ◌<?◌, ◌=?◌, any?}
 use Rattle.definition.specs.Booleans.{by_bool}
 use Rattle.definition.specs.Pool.{Pool}

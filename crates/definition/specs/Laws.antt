@@ -1,6 +1,6 @@
 -- Laws of single words of the definition, which the promises and the refinement cite.
 use Rattle.std.specs.Prelude.{◌≡◌, refl, Bool, true, false, List, [], ◌∷◌, ℕ, zero, suc, ◌≤◌, length}
-use Rattle.std.proofs.Math.Option.{none}
+use Rattle.std.specs.Prelude.{None as none}
 use Rattle.std.proofs.Common.{arith, eqb-true}
 use Rattle.definition.specs.Words.{when◌then◌else◌, ◌=?◌}
 use Rattle.definition.specs.Pool.{Conn, find, state_no, state_of_no}

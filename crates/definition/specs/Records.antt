@@ -3,21 +3,7 @@ use Rattle.std.specs.Prelude.{Bool, ℕ, ◌+◌, ◌*◌}
 use Rattle.definition.specs.Words.{when◌then◌else◌}
 use Rattle.definition.specs.Pool.{Waiter}
 use Rattle.definition.specs.Types.{ClosedReason, Idle, Stale, Error, Dropped, PoolClosed}
-
-pub data Reply : Type 0 where
-  Pooled Establishing : (connection : ℕ) → Reply
-  Warmed : Reply
-  Cleared : (cause : ℕ) → Reply
-  Gone Unheard : Reply
-
-pub data Record : Type 0 where
-  ConnectionCreated ConnectionReady ConnectionCheckedIn : (connection : ℕ) → Record
-  ConnectionClosed : ClosedReason → (connection other : ℕ) → Record
-  PoolReady : Record
-  PoolCleared : (timeout : Bool) (cause generation : ℕ) → Record
-  PoolShut : Record
-  Interrupt : (lent : ℕ) → Record
-  Replied : (request : ℕ) → Reply → Record
+pub use Rattle.definition.specs.Types.{Reply, Pooled, Establishing, Warmed, Cleared, Gone, Unheard, Record, ConnectionCreated, ConnectionReady, ConnectionCheckedIn, ConnectionClosed, PoolReady, PoolCleared, PoolShut, Interrupt, Replied}
 
 -- what a waiter is told: 21 in the reply's place where it was abandoned
 unfoldable pub told : Reply → Waiter → Record

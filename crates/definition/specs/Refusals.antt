@@ -1,6 +1,6 @@
 -- The twelve refusals, one call, and a run of calls.
 use Rattle.std.specs.Prelude.{Bool, true, false, not, ◌&&◌, ◌||◌, List, [], ◌∷◌, ℕ, zero, suc, ◌+◌, ◌-◌, ◌*◌, ◌/◌, length}
-use Rattle.std.proofs.Math.Option.{Option, none, some}
+use Rattle.std.specs.Prelude.{Option, None as none, Some as some}
 use Rattle.definition.specs.Words.{when◌then◌else◌, ◌<?◌, ◌≤?◌, ◌=?◌, any?}
 use Rattle.definition.specs.Pool.{Pool, fresh, slot_count, queue_length, with_defaults, in_range, with_clock, with_written, is_closed, has, has_in, find, unpinned, pinned, pinned_in_use, for_request, in_background}
 use Rattle.definition.specs.Events.{parts_of}

@@ -1,7 +1,7 @@
 -- An event's line, read, is the event; a line that is read as an event is that event's line. Options likewise.
 use Rattle.std.specs.Prelude.{◌≡◌, refl, Bool, true, false, List, [], ◌∷◌, ◌++◌, ℕ, ◌*◌, ◌/◌, ◌%◌, ◌<◌, length, get_or, take, drop}
 use Rattle.std.proofs.Common.{ap, sym, ◌∙◌, arith, length-append, length-take, drop_of_length-le, take-append-drop, take_at, drop-cons, eqb-true}
-use Rattle.std.proofs.Math.Option.{Option, none, some}
+use Rattle.std.specs.Prelude.{Option, None as none, Some as some}
 use Rattle.std.proofs.lemmas.List.{get_or_at}
 use Rattle.definition.specs.Words.{when◌then◌else◌, ◌=?◌}
 use Rattle.definition.specs.Events.{parts_of}

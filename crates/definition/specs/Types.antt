@@ -14,5 +14,9 @@ pub use Rattle.definition.specs.declared.ConnectionState.{ConnectionState}
 pub use Rattle.definition.specs.declared.ConnectionState.TheVariants.{Vacant, CheckedIn, CheckedOut, Pinned, Pending}
 pub use Rattle.definition.specs.declared.ClosedReason.{ClosedReason}
 pub use Rattle.definition.specs.declared.ClosedReason.TheVariants.{Idle, Stale, Error, Dropped, PoolClosed}
+pub use Rattle.definition.specs.declared.Reply.{Reply}
+pub use Rattle.definition.specs.declared.Reply.TheVariants.{Pooled, Establishing, Warmed, Cleared, Gone, Unheard}
+pub use Rattle.definition.specs.declared.Record.{Record}
+pub use Rattle.definition.specs.declared.Record.TheVariants.{ConnectionCreated, ConnectionReady, ConnectionCheckedIn, ConnectionClosed, PoolReady, PoolCleared, PoolShut, Interrupt, Replied}
 pub use Rattle.definition.specs.declared.Refusal.{Refusal}
 pub use Rattle.definition.specs.declared.Refusal.TheVariants.{OutputShort, Malformed, ClockBack, AfterClose, NumbersSpent, OldRequest, QueueFull, WrongState, WrongTime, OptionsOutOfRange, NotWaiting, AlreadyPinned}

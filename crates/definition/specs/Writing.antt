@@ -1,6 +1,6 @@
 -- A day written from its options and events, the other way round of reading it.
 use Rattle.std.specs.Prelude.{List, [], ◌∷◌, ◌++◌, ℕ, zero, suc, ◌+◌, ◌*◌, ◌/◌, ◌%◌, length, take, drop}
-use Rattle.std.proofs.Math.Option.{Option, none, some}
+use Rattle.std.specs.Prelude.{Option, None as none, Some as some}
 use Rattle.definition.specs.Words.{when◌then◌else◌, ◌<?◌, ◌=?◌, any?}
 use Rattle.definition.specs.Refusals.{Test, ◌if◌, first, malformed}
 use Rattle.definition.specs.Bytes.{frame_length, day_line_length, frame_bytes, frame_of, options_bytes, line_of}

@@ -2,6 +2,11 @@
 
 #![tactic(auto)]
 
+ghost use Rattle.std.specs.Prelude.{◌≡◌};
+ghost use Rattle.definition.specs.Pool.{state_no, state_of_no};
+ghost use Rattle.definition.specs.Records.{reason_no};
+ghost use Rattle.definition.specs.Refusals.{refusal_no};
+
 // ── Numbers ──
 
 // The most connections that a pool may have, and the most requests that may wait. All numbers below follow from these two
@@ -79,6 +84,7 @@ pub enum Event {
 }
 
 // What 24 bytes say: an event and its time, or nothing that is an event.
+// Not an Option: a bad frame is a frame too, which every pool takes and refuses as 2, and of which the definition's theorems speak.
 #[derive(Clone, Copy)]
 pub enum Frame {
     Good(Event, u64),
@@ -126,19 +132,98 @@ pub enum ConnectionState {
     Pending(Purpose),
 }
 
+// A state's number, as it stands in a column.
+impl From<ConnectionState> for u8 {
+    fn from(state: ConnectionState) -> u8
+        ensures { result ≡ state_no state }
+    {
+        match state {
+            ConnectionState::Vacant => 0,
+            ConnectionState::CheckedIn => 1,
+            ConnectionState::CheckedOut => 2,
+            ConnectionState::Pinned(PinnedState::InUse) => 3,
+            ConnectionState::Pinned(PinnedState::Returned) => 4,
+            ConnectionState::Pending(Purpose::Request) => 5,
+            ConnectionState::Pending(Purpose::Background) => 6,
+        }
+    }
+}
+
+// The state of a number; a number of no state is taken for Vacant's.
+impl From<u8> for ConnectionState {
+    fn from(number: u8) -> ConnectionState
+        ensures { result ≡ state_of_no number }
+    {
+        match number {
+            1 => ConnectionState::CheckedIn,
+            2 => ConnectionState::CheckedOut,
+            3 => ConnectionState::Pinned(PinnedState::InUse),
+            4 => ConnectionState::Pinned(PinnedState::Returned),
+            5 => ConnectionState::Pending(Purpose::Request),
+            6 => ConnectionState::Pending(Purpose::Background),
+            _ => ConnectionState::Vacant,
+        }
+    }
+}
+
+// Why a connection is closed, with the reasons' numbers: from 1 on, in this order.
 #[derive(Clone, Copy)]
 pub enum ClosedReason {
-    Idle,
+    Idle = 1,
     Stale,
     Error,
     Dropped,
     PoolClosed,
 }
 
-// The twelve refusals, in order of their numbers.
+// A reason's number, as it stands in a record.
+impl From<ClosedReason> for u8 {
+    fn from(reason: ClosedReason) -> u8
+        ensures { result ≡ reason_no reason }
+    {
+        reason as u8
+    }
+}
+
+// What a request is answered.
+#[derive(Clone, Copy)]
+pub enum Reply {
+    // connection
+    Pooled(u32),
+    // connection
+    Establishing(u32),
+    Warmed,
+    // cause
+    Cleared(u32),
+    Gone,
+    Unheard,
+}
+
+// What a pool says of an event.
+#[derive(Clone, Copy)]
+pub enum Record {
+    // connection
+    ConnectionCreated(u32),
+    // connection
+    ConnectionReady(u32),
+    // connection
+    ConnectionCheckedIn(u32),
+    // reason, connection, other
+    ConnectionClosed(ClosedReason, u32, u32),
+    PoolReady,
+    // network timeout, cause, generation
+    PoolCleared(bool, u32, u32),
+    PoolShut,
+    // how many are lent
+    Interrupt(u32),
+    // request
+    Replied(u32, Reply),
+}
+
+// The twelve refusals, with their numbers: from 1 on, in this order.
 #[derive(Clone, Copy)]
 pub enum Refusal {
-    OutputShort,
+    OutputShort = 1,
     Malformed,
     ClockBack,
     AfterClose,
@@ -150,4 +235,13 @@ pub enum Refusal {
     OptionsOutOfRange,
     NotWaiting,
     AlreadyPinned,
+}
+
+// A refusal's number, as a record and a host are told it.
+impl From<Refusal> for u8 {
+    fn from(r: Refusal) -> u8
+        ensures { result ≡ refusal_no r }
+    {
+        r as u8
+    }
 }

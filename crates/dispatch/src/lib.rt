@@ -3,87 +3,48 @@
 
 ghost use Rattle.std.specs.Prelude.{◌≡◌, ◌≤◌, length};
 ghost use Rattle.definition.specs.Refusals.{enough_room};
-ghost use Rattle.slots.specs.View.{given, before, after};
-ghost use Rattle.slots.specs.Done.{Done};
+ghost use Rattle.slots.specs.View.{pool_in};
+ghost use Rattle.slots.specs.Done.{Does};
 ghost use Rattle.slots.specs.Slots.{handle};
 ghost use Rattle.dispatch.specs.Asks.{Asks};
 
-use acts::Progress;
-use definition::Event;
-use slots::{Head, Numbers, States, Times, Waiters};
+use definition::{ConnectionState, Event, PinnedState};
+use records::Records;
+use slots::ConnectionPoolWorker;
 
 // The event's own step, on the slot or the waiter that it names; the clock is the event's.
-pub fn handle(
-    head: Head,
-    numbers: &mut Numbers,
-    times: &mut Times,
-    states: &mut States,
-    waiters: &mut Waiters,
-    out: &mut [u8],
-    e: Event,
-    i: usize,
-) -> Progress
-    requires { Asks e i (given head numbers times states waiters) × (enough_room ≤ length out.old) }
-    ensures { Done (handle e i (before head numbers times states waiters)) head.serial 0 out.old (after result.head numbers times states waiters) result.count out.new }
+#[tactic(auto, using(crate::proofs::Handled::asked), unfolding(slots::specs::Slots::handle, slots::specs::Slots::abandon_at, slots::specs::Slots::set_state_at))]
+pub fn handle(worker: &mut ConnectionPoolWorker, records: &mut Records, e: Event, i: usize)
+    requires { Asks e i (pool_in worker.old) × (enough_room ≤ length records.old.out.now) × (records.old.count ≡ 0) }
+    ensures { Does (handle e i) worker records }
 {
     match e {
-        Event::CheckOut(id) => requests::request(
-            head, numbers, times, states, waiters, out, 0, id, false,
-        ),
-        Event::WarmPool(id) => requests::request(
-            head, numbers, times, states, waiters, out, 0, id, true,
-        ),
-        Event::Abandon(_) => {
-            requests::abandon(head, numbers, times, states, waiters, i);
-            Progress {
-                head: head,
-                count: 0,
-            }
-        }
+        Event::CheckOut(id) => requests::request(worker, records, id, false),
+        Event::WarmPool(id) => requests::request(worker, records, id, true),
+        Event::Abandon(_) => requests::abandon(worker, i),
         Event::CheckIn(_, errored, executing, let_go) => check_in::check_in(
-            head, numbers, times, states, waiters, out, 0, i, errored, executing, let_go,
+            worker, records, i, errored, executing, let_go,
         ),
-        Event::Clear(timeout, cause) => upkeep::clear(
-            head, numbers, times, states, waiters, out, timeout, cause,
-        ),
-        Event::MarkAsReady => upkeep::mark_as_ready(head, numbers, times, states, waiters, out, 0),
-        Event::Succeeded(_) => pending::handle_connection_succeeded(
-            head, numbers, times, states, waiters, out, 0, i,
-        ),
+        Event::Clear(timeout, cause) => upkeep::clear(worker, records, timeout, cause),
+        Event::MarkAsReady => upkeep::mark_as_ready(worker, records),
+        Event::Succeeded(_) => pending::handle_connection_succeeded(worker, records, i),
         Event::SucceededForPool(_, opened) => pending::handle_connection_succeeded_for_pool(
-            head, numbers, times, states, waiters, out, 0, i, opened,
+            worker, records, i, opened,
         ),
-        Event::Failed(_) => pending::handle_connection_failed(
-            head, numbers, times, states, waiters, out, 0, i,
+        Event::Failed(_) => pending::handle_connection_failed(worker, records, i),
+        Event::Maintenance => upkeep::perform_maintenance(worker, records),
+        Event::FillPool => {}
+        Event::Pin(_) => acts::set_state(worker, i, ConnectionState::Pinned(PinnedState::InUse)),
+        Event::ReturnToPinner(_) => acts::set_state(
+            worker,
+            i,
+            ConnectionState::Pinned(PinnedState::Returned),
         ),
-        Event::Maintenance => upkeep::perform_maintenance(
-            head, numbers, times, states, waiters, out,
+        Event::TakeFromPinner(_) => acts::set_state(
+            worker,
+            i,
+            ConnectionState::Pinned(PinnedState::InUse),
         ),
-        Event::FillPool => Progress {
-            head: head,
-            count: 0,
-        },
-        Event::Pin(_) => {
-            acts::set_state(head, numbers, times, states, waiters, i, 3);
-            Progress {
-                head: head,
-                count: 0,
-            }
-        }
-        Event::ReturnToPinner(_) => {
-            acts::set_state(head, numbers, times, states, waiters, i, 4);
-            Progress {
-                head: head,
-                count: 0,
-            }
-        }
-        Event::TakeFromPinner(_) => {
-            acts::set_state(head, numbers, times, states, waiters, i, 3);
-            Progress {
-                head: head,
-                count: 0,
-            }
-        }
-        Event::Close => upkeep::shut(head, numbers, times, states, waiters, out),
+        Event::Close => upkeep::shut(worker, records),
     }
 }

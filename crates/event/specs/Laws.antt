@@ -14,27 +14,26 @@ use Rattle.slots.specs.View.{SlotPool, with_clock, with_serial}
 use Rattle.slots.specs.Done.{Done}
 use Rattle.slots.specs.Slots.{event}
 use Rattle.slots.specs.Call.{verdict, world, accepted, judged, step, call}
-use Rattle.slots.specs.declared.Verdict.TheVariants.{Refuse, Accept}
-use Rattle.slots.specs.declared.Outcome.TheVariants.{Refused, Accepted}
+use Rattle.std.specs.declared.result.Result.TheVariants.{Ok, Err}
 
 module _ (p : SlotPool) (l : List ℕ) (e : Event) (now : ℕ) where
-  pub step_refused : (r : Refusal) → verdict p e now ≡ Refuse r → step p l e now ≡ world p l (Refused r)
+  pub step_refused : (r : Refusal) → verdict p e now ≡ Err r → step p l e now ≡ world p l (Err r)
   unfolding step
   step_refused r h = ap (judged p l e now) h
 
-  pub step_taken : (i : ℕ) → verdict p e now ≡ Accept i → step p l e now ≡ accepted p l (event e i (with_clock p now))
+  pub step_taken : (i : ℕ) → verdict p e now ≡ Ok i → step p l e now ≡ accepted p l (event e i (with_clock p now))
   unfolding step
   step_taken i h = ap (judged p l e now) h
 
 -- what was done, with the serial moved once
 pub step_done : (p : SlotPool) (l : List ℕ) (e : Event) (now i : ℕ) (q : SlotPool) {s m : ℕ} {k : List ℕ}
-    → verdict p e now ≡ Accept i → Done (event e i (with_clock p now)) p.serial 0 l q m k → s ≡ serial_of (p.serial + m) → world (with_serial q s) k (Accepted m) ≡ step p l e now
+    → verdict p e now ≡ Ok i → Done (event e i (with_clock p now)) p.serial 0 l q m k → s ≡ serial_of (p.serial + m) → world (with_serial q s) k (Ok m) ≡ step p l e now
 step_done p l e now i q {s} {m} h d f =
     let z : m ≡ length (event e i (with_clock p now)).records = omega (arith, d.count) in
     rw (f, z, d.out, d.pool) (sym (step_taken p l e now i h))
 
 module _ (p : SlotPool) (l : List ℕ) where
-  pub call_short : (f : Frame) → length l < enough_room → call p l f ≡ world p l (Refused OutputShort)
+  pub call_short : (f : Frame) → length l < enough_room → call p l f ≡ world p l (Err OutputShort)
   unfolding call when◌then◌else◌
   call_short (Good e now) h = rw (lt-ltb (length l) enough_room h)
   call_short Bad h = rw (lt-ltb (length l) enough_room h)
@@ -43,6 +42,6 @@ module _ (p : SlotPool) (l : List ℕ) where
   unfolding call when◌then◌else◌
   call_good e now h = rw (le-ltb (length l) enough_room h)
 
-  pub call_bad : enough_room ≤ length l → call p l Bad ≡ world p l (Refused Malformed)
+  pub call_bad : enough_room ≤ length l → call p l Bad ≡ world p l (Err Malformed)
   unfolding call when◌then◌else◌
   call_bad h = rw (le-ltb (length l) enough_room h)

@@ -1,58 +1,57 @@
 // What an accepted event asks for is done: its own step at its time, then the service stage, which serves the queue.
 #![tactic(auto)]
 
-ghost use Rattle.std.specs.Prelude.{◌≡◌, ◌||◌, ◌≤◌, length};
+ghost use Rattle.std.specs.Prelude.{◌≡◌, ◌≤◌, length};
 ghost use Rattle.definition.specs.Refusals.{enough_room};
-ghost use Rattle.definition.specs.Steps.{◌to◌holds◌};
-ghost use Rattle.slots.specs.View.{given, before, after, with_clock};
-ghost use Rattle.slots.specs.Done.{Done};
+ghost use Rattle.definition.specs.Steps.{serviced};
+ghost use Rattle.slots.specs.View.{pool_in, with_clock};
+ghost use Rattle.slots.specs.Done.{DoesFrom};
 ghost use Rattle.slots.specs.Slots.{event};
 ghost use Rattle.slots.specs.Call.{target};
 ghost use Rattle.refinement.specs.Stands.{Formed};
 ghost use Rattle.refinement.specs.Tests.{Passed};
 
-use acts::Progress;
 use definition::Event;
-use slots::{Head, Numbers, States, Times, Waiters};
+use records::Records;
+use slots::ConnectionPoolWorker;
 
 // What reaches the worker's loop, each turn of which ends in service.
-fn is_serviced(kind: u8) -> bool
-    ensures { result ≡ (1 to 2 holds kind || 4 to 11 holds kind) }
+fn is_serviced(e: Event) -> bool
+    ensures { result ≡ serviced e }
 {
-    if kind < 1 {
-        return false;
+    match e {
+        Event::Abandon(_)
+        | Event::Pin(_)
+        | Event::ReturnToPinner(_)
+        | Event::TakeFromPinner(_)
+        | Event::Close => false,
+        Event::CheckOut(_)
+        | Event::WarmPool(_)
+        | Event::CheckIn(_, _, _, _)
+        | Event::Clear(_, _)
+        | Event::MarkAsReady
+        | Event::Succeeded(_)
+        | Event::SucceededForPool(_, _)
+        | Event::Failed(_)
+        | Event::Maintenance
+        | Event::FillPool => true,
     }
-    if kind <= 2 {
-        return true;
-    }
-    if kind < 4 {
-        return false;
-    }
-    kind <= 11
 }
 
 // An event that no test refuses: its own step at its time, then, once, the service stage.
 pub fn event(
-    head: Head,
-    numbers: &mut Numbers,
-    times: &mut Times,
-    states: &mut States,
-    waiters: &mut Waiters,
-    out: &mut [u8],
+    worker: &mut ConnectionPoolWorker,
+    records: &mut Records,
     e: Event,
     time: u64,
     i: usize,
-) -> Progress
-    requires { Formed (given head numbers times states waiters) × Passed (given head numbers times states waiters) e time × (i ≡ target (given head numbers times states waiters) e) × (enough_room ≤ length out.old) }
-    ensures { Done (event e i (with_clock (before head numbers times states waiters) time)) head.serial 0 out.old (after result.head numbers times states waiters) result.count out.new }
+)
+    requires { Formed (pool_in worker.old) × Passed (pool_in worker.old) e time × (i ≡ target (pool_in worker.old) e) × (enough_room ≤ length records.old.out.now) × (records.old.count ≡ 0) }
+    ensures { DoesFrom (event e i) (with_clock (pool_in worker.old) time) worker records }
 {
-    let mut h = head;
-    h.clock = time;
-    let c = dispatch::handle(h, numbers, times, states, waiters, out, e, i);
-    if is_serviced(common_tests::kind_no(e)) {
-        let g = c.head;
-        let n = c.count;
-        return checkout::service(g, numbers, times, states, waiters, out, n);
+    worker.head.clock = time;
+    dispatch::handle(worker, records, e, i);
+    if is_serviced(e) {
+        checkout::service(worker, records);
     }
-    c
 }

@@ -8,7 +8,10 @@ use Prim.Native.Nat.{ℕ, zero, suc, ◌-◌, ◌≤◌, ◌<◌}
 use Rattle.definition.specs.Booleans.{and_left, and_right}
 use Rattle.definition.specs.Words.{when◌then◌else◌, ◌<?◌, ◌≤?◌}
 use Rattle.definition.specs.Pool.{Pool, Conn, Waiter, idle_for, stale, idle, perished, age_told, with_clock}
-use Rattle.definition.specs.Records.{Record, ConnectionCreated, ConnectionReady, ConnectionCheckedIn, ConnectionClosed, PoolReady, PoolCleared, PoolShut, Interrupt, Replied, Reply, told}
+use Rattle.definition.specs.Records.{told}
+use Rattle.definition.specs.declared.Record.{Record}
+use Rattle.definition.specs.declared.Record.TheVariants.{ConnectionCreated, ConnectionReady, ConnectionCheckedIn, ConnectionClosed, PoolReady, PoolCleared, PoolShut, Interrupt, Replied}
+use Rattle.definition.specs.declared.Reply.{Reply}
 use Rattle.definition.specs.Steps.{closed_with_pool, Out, Act, ◌>>◌, leave_lent, leave_pending, shelve, lend_out, create_pending_connection, create_many, close_perished, tell_all, enter, queue, request, abandon, check_in, clear, mark_as_ready, succeeded, succeeded_for_pool, failed, remove_perished, ensure_min_connections, maintenance, repin, shut, handle, establish, lend, take_available, check_out, serve_front, service, event}
 use Rattle.definition.specs.Refusals.{Result, Call, after, run}
 use Rattle.definition.proofs.Sentences.{if_both}

@@ -6,7 +6,10 @@ use Rattle.std.proofs.lemmas.List.{map-append}
 use Rattle.definition.specs.Booleans.{and_left}
 use Rattle.definition.specs.Words.{when◌then◌else◌, ◌=?◌}
 use Rattle.definition.specs.Pool.{Pool, Conn, Waiter, is_ready, is_closed, with_clock, with_waiting, fresh}
-use Rattle.definition.specs.Records.{Record, PoolCleared, Interrupt, Reply, Cleared}
+use Rattle.definition.specs.declared.Record.{Record}
+use Rattle.definition.specs.declared.Record.TheVariants.{PoolCleared, Interrupt}
+use Rattle.definition.specs.declared.Reply.{Reply}
+use Rattle.definition.specs.declared.Reply.TheVariants.{Cleared}
 use Rattle.definition.specs.Steps.{closed_with_pool, Out, Act, ◌>>◌, nothing, emit, leave_lent, leave_pending, shelve, lend_out, create_pending_connection, create_many, close_perished, tell_all, enter, queue, request, abandon, check_in, clear, mark_as_ready, succeeded, succeeded_for_pool, failed, remove_perished, ensure_min_connections, maintenance, repin, shut, handle, can_service, serve_front, service, event}
 use Rattle.definition.specs.Refusals.{taken_after_close, Result, Call, after, run}
 use Rattle.definition.specs.declared.Options.{Options}

@@ -1,7 +1,7 @@
 -- What every event keeps: the options, the count of records until its end, and the last request number save where it brings one.
 use Rattle.std.specs.Prelude.{◌≡◌, refl, Bool, true, false, List, [], ◌∷◌, ◌++◌, ℕ, zero, suc, ◌+◌, length}
 use Rattle.std.proofs.Common.{◌∙◌, length-append, arith, leb-false}
-use Rattle.std.proofs.Math.Option.{none}
+use Rattle.std.specs.Prelude.{None as none}
 use Rattle.definition.specs.Laws.{not_first}
 use Rattle.definition.specs.Words.{when◌then◌else◌}
 use Rattle.definition.specs.Pool.{Pool, Conn, Waiter, with_clock}

@@ -1,6 +1,6 @@
 -- What every pool that is reached is: within its maximum, its queue not too long, and as its state says.
 use Rattle.std.specs.Prelude.{◌≡◌, refl, List, [], ◌∷◌, ℕ, ◌+◌, ◌≤◌, length}
-use Rattle.std.proofs.Math.Option.{none}
+use Rattle.std.specs.Prelude.{None as none}
 use Rattle.std.proofs.Common.{arith, leb-false}
 use Rattle.definition.specs.Laws.{not_first}
 use Rattle.definition.specs.Pool.{Pool, queue_length, with_clock, fresh}

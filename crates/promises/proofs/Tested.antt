@@ -6,7 +6,8 @@ use Rattle.std.proofs.Common.{sym, arith, lt-ltb, leb-false}
 use Rattle.std.proofs.lemmas.List.{length-reverse}
 use Rattle.definition.specs.Words.{when◌then◌else◌}
 use Rattle.definition.specs.Pool.{Pool, Conn, Waiter, total, with_available, with_waiting}
-use Rattle.definition.specs.Records.{Warmed, told}
+use Rattle.definition.specs.Records.{told}
+use Rattle.definition.specs.declared.Reply.TheVariants.{Warmed}
 use Rattle.definition.specs.Steps.{Act, ◌>>◌, nothing, emit, close_perished, establish, lend, take_available, check_out, serve_front, service}
 use Rattle.promises.proofs.Bound.{room}
 use Rattle.promises.specs.Reached.{Reached}

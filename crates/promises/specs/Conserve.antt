@@ -5,7 +5,9 @@ use Rattle.std.proofs.lemmas.List.{map-append}
 use Rattle.definition.specs.Laws.{find_id}
 use Rattle.definition.specs.Words.{when◌then◌else◌}
 use Rattle.definition.specs.Pool.{Pool, Conn, Waiter, has, find, with_clock, with_available, fresh}
-use Rattle.definition.specs.Records.{Record, Reply, told}
+use Rattle.definition.specs.Records.{told}
+use Rattle.definition.specs.declared.Record.{Record}
+use Rattle.definition.specs.declared.Reply.{Reply}
 use Rattle.definition.specs.Steps.{closed_with_pool, Out, Act, ◌>>◌, close, emit_all, become, leave_lent, leave_pending, shelve, lend_out, create_pending_connection, create_many, close_perished, tell_all, enter, queue, request, abandon, check_in, clear, mark_as_ready, succeeded, succeeded_for_pool, failed, remove_perished, ensure_min_connections, maintenance, repin, shut, handle, establish, lend, take_available, check_out, serve_front, service, event}
 use Rattle.definition.specs.Refusals.{Result, Call, after, run}
 use Rattle.definition.specs.declared.Options.{Options}

@@ -1,10 +1,13 @@
 -- THE PROMISES, apart from their proofs, which Proved gives. Each is said of every list of calls to a fresh pool: frames good and bad,
 -- calls refused and accepted, any room lent. Log and Runs have the words.
 use Rattle.std.specs.Prelude.{◌≡◌, ◌⊎◌, ℕ, suc, ◌+◌, ◌*◌, ◌≤◌, ◌<◌, min, length}
-use Rattle.std.proofs.Math.Option.{none}
+use Rattle.std.specs.Prelude.{None as none}
 use mathlib.Core.List.{List, [], ◌∷◌, ◌++◌, Memᴰ}
 use Rattle.definition.specs.Pool.{Pool, fresh, slot_count, total, most_age, with_defaults, with_clock}
-use Rattle.definition.specs.Records.{Record, ConnectionClosed, Replied, Pooled, record_length}
+use Rattle.definition.specs.Records.{record_length}
+use Rattle.definition.specs.declared.Record.{Record}
+use Rattle.definition.specs.declared.Record.TheVariants.{ConnectionClosed, Replied}
+use Rattle.definition.specs.declared.Reply.TheVariants.{Pooled}
 use Rattle.definition.specs.Steps.{Out, handle, service}
 use Rattle.definition.specs.Refusals.{first, tests, Call, after, run, enough_room, room_records, Made, make}
 use Rattle.definition.specs.declared.Options.{Options}

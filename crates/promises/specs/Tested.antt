@@ -4,7 +4,8 @@
 use Rattle.std.specs.Prelude.{List, [], ◌∷◌, reverse}
 use Rattle.definition.specs.Words.{when◌then◌else◌, ◌<?◌, ◌≤?◌}
 use Rattle.definition.specs.Pool.{Pool, Conn, Waiter, total, perished, with_available, with_waiting}
-use Rattle.definition.specs.Records.{Warmed, told}
+use Rattle.definition.specs.Records.{told}
+use Rattle.definition.specs.declared.Reply.TheVariants.{Warmed}
 use Rattle.definition.specs.Steps.{Act, ◌>>◌, nothing, emit, become, close_perished, can_service, establish, lend}
 
 -- ── The stage with the test ────────────────────────────────────────────────────────────────────────────────────────────

@@ -6,7 +6,8 @@ use Rattle.definition.specs.Laws.{find_id}
 use Rattle.definition.specs.Words.{when◌then◌else◌}
 use Rattle.definition.specs.Pool as P
 use Rattle.definition.specs.Pool.{slot_count, Pool, Conn, stale_in, find, state_no}
-use Rattle.definition.specs.Records.{Record, ConnectionClosed}
+use Rattle.definition.specs.declared.Record.{Record}
+use Rattle.definition.specs.declared.Record.TheVariants.{ConnectionClosed}
 use Rattle.definition.specs.Steps as D
 use Rattle.definition.specs.Steps.{Out, Act, nothing, emit, ◌>>◌}
 use Rattle.definition.specs.declared.ClosedReason.{ClosedReason}

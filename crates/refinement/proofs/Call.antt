@@ -1,12 +1,12 @@
 -- One call: on slots it answers as the definition does on lists, whatever the frame and whatever the output.
 use Rattle.std.specs.Prelude.{◌≡◌, refl, Bool, true, false, List, ℕ, ◌+◌, length}
 use Rattle.std.proofs.Common.{ap, sym, subst, arith}
-use Rattle.std.proofs.Math.Option.{Option, none, some}
+use Rattle.std.specs.Prelude.{Option, None as none, Some as some}
 use Rattle.definition.specs.Words.{when◌then◌else◌, ◌<?◌}
 use Rattle.definition.specs.Bytes.{serial_of}
 use Rattle.definition.specs.Pool as P
 use Rattle.definition.specs.Pool.{Pool}
-use Rattle.definition.specs.Records.{Record}
+use Rattle.definition.specs.declared.Record.{Record}
 use Rattle.definition.specs.Steps as D
 use Rattle.definition.specs.Steps.{Out}
 use Rattle.definition.specs.Refusals as R
@@ -22,7 +22,7 @@ use Rattle.slots.specs.Slots as S
 use Rattle.slots.specs.Done.{lay}
 use Rattle.slots.specs.Call as C
 use Rattle.slots.specs.Call.{World, world, target}
-use Rattle.slots.specs.declared.Outcome.TheVariants.{Refused, Accepted}
+use Rattle.std.specs.declared.result.Result.TheVariants.{Ok, Err}
 use Rattle.refinement.proofs.Alike.{alike_clock, alike_counted}
 use Rattle.refinement.specs.Stands.{Stands}
 use Rattle.refinement.specs.Events.{Fit}
@@ -31,9 +31,9 @@ use Rattle.refinement.proofs.Tests.{event_tests, tests_same, tests_passed}
 use Rattle.refinement.specs.Leaves.{event_leaves}
 use Rattle.refinement.specs.Call.{Takes, Refines}
 
-refused : (p : SlotPool) (l : List ℕ) (x : Refusal) → Refines p l (world p l (Refused x)) (R.Refused x)
+refused : (p : SlotPool) (l : List ℕ) (x : Refusal) → Refines p l (world p l (Err x)) (R.Refused x)
 refused p l x = record {
-  refuses = λ y e. let d : x ≡ y = cc in ap (λ (z : Refusal). world p l (Refused z)) d;
+  refuses = λ y e. let d : x ≡ y = cc in ap (λ (z : Refusal). world p l (Err z)) d;
   accepts = λ o e. let z : ◌≡◌ {A = ℕ} 0 1 = cc in absurd (omega arith);
 }
 
@@ -64,7 +64,7 @@ takes p m l e now st f =
       pool = subst (λ (rs : List Record). Stands (View.with_serial o.pool (serial_of (p.serial + length o.records))) (P.with_written o' (o'.written + length rs))) s.records
           (counted_stands p.serial (length o.records) s.stands kept);
       out = ap (λ (rs : List Record). lay p.serial 0 rs l) s.records;
-      outcome = ap (λ (rs : List Record). Accepted (length rs)) s.records;
+      outcome = ap (λ (rs : List Record). Ok (length rs)) s.records;
     }
 
 -- ── Any call ───────────────────────────────────────────────────────────────────────────────────────────────────────────
@@ -76,7 +76,7 @@ unfolding R.outcome
 judged_same p m l e now none none st h q = accepted p l _ _ (takes p m l e now st (tests_passed st e now h).fit)
 judged_same p m l e now (some r) (some r') st h q =
     let d : r ≡ r' = cc in
-    subst (λ (z : Refusal). Refines p l (world p l (Refused r)) (R.Refused z)) d (refused p l r)
+    subst (λ (z : Refusal). Refines p l (world p l (Err r)) (R.Refused z)) d (refused p l r)
 judged_same p m l e now none (some r') st h q = let z : ◌≡◌ {A = ℕ} 0 1 = cc in absurd (omega arith)
 judged_same p m l e now (some r) none st h q = let z : ◌≡◌ {A = ℕ} 0 1 = cc in absurd (omega arith)
 
@@ -84,12 +84,12 @@ pub call_refines : (p : SlotPool) (m : Pool) → Stands p m → (f : Frame) (l :
 unfolding C.call C.step C.verdict R.step R.tests first when◌then◌else◌
 call_refines p m st Bad l = go (length l <? enough_room)
   where
-    go : (b : Bool) → Refines p l (world p l (Refused (when b then OutputShort else Malformed))) (R.verdict (when b then some OutputShort else some Malformed) (R.outcome Bad m))
+    go : (b : Bool) → Refines p l (world p l (Err (when b then OutputShort else Malformed))) (R.verdict (when b then some OutputShort else some Malformed) (R.outcome Bad m))
     go true = refused p l OutputShort
     go false = refused p l Malformed
 call_refines p m st (Good e now) l = go (length l <? enough_room)
   where
-    go : (b : Bool) → Refines p l (when b then world p l (Refused OutputShort) else C.step p l e now) (R.verdict (when b then some OutputShort else first (event_tests m e now)) (R.outcome (Good e now) m))
+    go : (b : Bool) → Refines p l (when b then world p l (Err OutputShort) else C.step p l e now) (R.verdict (when b then some OutputShort else first (event_tests m e now)) (R.outcome (Good e now) m))
     go true = refused p l OutputShort
     go false = step_same
       where

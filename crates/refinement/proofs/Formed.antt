@@ -3,7 +3,7 @@
 use Rattle.std.specs.Prelude.{◌≡◌, refl, Bool, true, false, not, ◌&&◌, ◌||◌, List, [], ◌∷◌, ℕ, zero, suc, ◌≤◌, length, get_or, replicate}
 use Rattle.std.proofs.Common.{ap, sym, subst, ◌∙◌, true≢false, arith, length-append, ltb-false}
 use Rattle.std.proofs.lemmas.Bool.{false≢true}
-use Rattle.std.proofs.Math.Option.{Option, none, some}
+use Rattle.std.specs.Prelude.{Option, None as none, Some as some}
 use Rattle.std.proofs.lemmas.List.{length-replicate}
 use Rattle.definition.specs.Limits.{Limits, limits_of}
 use Rattle.definition.specs.Booleans.{by_bool}
@@ -25,8 +25,7 @@ use Rattle.promises.specs.Calls.{Named, kind_named, stepped}
 use Rattle.promises.proofs.Bound.{handle_fits, event_fits}
 use Rattle.promises.specs.Reached.{Reached}
 use Rattle.promises.proofs.Reached.{step_reached, fresh_reached}
-use Rattle.slots.specs.View.{SlotPool, Slot, numbers_length, states_length, pool_of, vacant}
-use Rattle.slots.specs.Columns.{column_blank}
+use Rattle.slots.specs.View.{SlotPool, Slot, pool_of, vacant}
 use Rattle.slots.specs.Parts.{slots_blank}
 use Rattle.slots.specs.declared.Head.{Head}
 use Rattle.slots.specs.View as View
@@ -34,7 +33,7 @@ use Rattle.slots.specs.Slots as S
 use Rattle.slots.specs.Needs.{taken}
 use Rattle.slots.specs.Call as C
 use Rattle.slots.specs.Call.{World, world, target}
-use Rattle.slots.specs.declared.Outcome.TheVariants.{Refused}
+use Rattle.std.specs.declared.result.Result.TheVariants.{Ok, Err}
 use Rattle.refinement.specs.Table.{look_none, lookup, one_zero}
 use Rattle.refinement.specs.Agree.{Class, Agrees, only, only_none}
 use Rattle.refinement.specs.Mirror.{is_lent, is_pending}
@@ -54,10 +53,12 @@ use Rattle.refinement.specs.Formed.{Lent, ran, wrote, writes, Answers, Runs}
 
 -- a head over columns all of 0
 abbrev pub over_blank : Head → SlotPool
-over_blank h = pool_of h (replicate numbers_length 0) (replicate slot_count 0) (replicate states_length 0) (replicate queue_length 0)
+over_blank h =
+    let blank = replicate slot_count 0 in
+    pool_of h blank blank blank blank blank (replicate queue_length 0)
 
 pub fresh_parts : (o : Options) → over_blank (fresh_head o) ≡ fresh_slots o
-fresh_parts o = rw (slots_blank numbers_length states_length (omega arith) (omega arith), column_blank 0 numbers_length (omega arith), column_blank 1 states_length (omega arith))
+fresh_parts o = rw slots_blank
 
 pub zeros : (n j : ℕ) → get_or {A = ℕ} (replicate n 0) j 0 ≡ 0
 zeros zero j = refl
@@ -172,7 +173,7 @@ unfolding C.call C.step C.verdict when◌then◌else◌
 call_numbers p l Bad st n = n
 call_numbers p l (Good e now) st n = go (length l <? enough_room) (first (C.tests p e now)) refl
   where
-    go : (b : Bool) (x : Option Refusal) → first (C.tests p e now) ≡ x → (when b then world p l (Refused OutputShort) else C.judged p l e now (C.or_accept (target p e) x)).pool.next_id ≤ most_next_id
+    go : (b : Bool) (x : Option Refusal) → first (C.tests p e now) ≡ x → (when b then world p l (Err OutputShort) else C.judged p l e now (C.or_accept (target p e) x)).pool.next_id ≤ most_next_id
     go true x h = n
     go false none h = event_numbers p e now (target p e) st.alike.limits (tests_passed st e now h) n
     go false (some r) h = n
@@ -213,7 +214,7 @@ call_sited p m l Bad st g s = s
 call_sited p m l (Good e now) st g s = go (length l <? enough_room) (first (C.tests p e now)) refl
   where
     go : (b : Bool) (x : Option Refusal) → first (C.tests p e now) ≡ x
-        → Sited (when b then world p l (Refused OutputShort) else C.judged p l e now (C.or_accept (target p e) x)).pool
+        → Sited (when b then world p l (Err OutputShort) else C.judged p l e now (C.or_accept (target p e) x)).pool
     go true x h = s
     go false none h =
         let done = event_sited p m e now st g s (tests_passed st e now h) (kind_named m e now (kind_passed m e now (sym (tests_same st e now) ∙ h))) in

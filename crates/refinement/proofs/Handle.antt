@@ -5,7 +5,10 @@ use Rattle.std.proofs.Common.{ap, subst, arith}
 use Rattle.definition.specs.Words.{when◌then◌else◌}
 use Rattle.definition.specs.Pool as P
 use Rattle.definition.specs.Pool.{queue_length, slot_count, Pool, Waiter, is_ready, is_closed, find}
-use Rattle.definition.specs.Records.{ConnectionReady, ConnectionCheckedIn, PoolReady, PoolCleared, Interrupt, Reply, Cleared, told}
+use Rattle.definition.specs.Records.{told}
+use Rattle.definition.specs.declared.Record.TheVariants.{ConnectionReady, ConnectionCheckedIn, PoolReady, PoolCleared, Interrupt}
+use Rattle.definition.specs.declared.Reply.{Reply}
+use Rattle.definition.specs.declared.Reply.TheVariants.{Cleared}
 use Rattle.definition.specs.Steps as D
 use Rattle.definition.specs.Steps.{nothing, emit, become, ◌>>◌}
 use Rattle.definition.specs.declared.ClosedReason.TheVariants.{Stale, Error, Dropped, PoolClosed}

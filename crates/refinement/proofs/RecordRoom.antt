@@ -1,7 +1,7 @@
 -- What a pool on slots writes is what its lists write: so the bound of the lists says that there is room for it.
 use Rattle.std.specs.Prelude.{◌≡◌, refl, Bool, true, false, List, ℕ, ◌+◌, ◌≤◌, max, length}
 use Rattle.std.proofs.Common.{ap, arith}
-use Rattle.std.proofs.Math.Option.{Option, none, some}
+use Rattle.std.specs.Prelude.{Option, None as none, Some as some}
 use Rattle.std.proofs.lemmas.List.{length-map}
 use Rattle.definition.specs.Words.{when◌then◌else◌, ◌<?◌}
 use Rattle.definition.specs.Pool.{Pool, slot_count, queue_length}
@@ -17,10 +17,10 @@ use Rattle.definition.specs.declared.Refusal.{Refusal}
 use Rattle.definition.specs.declared.Refusal.TheVariants.{OutputShort}
 use Rattle.slots.specs.View.{SlotPool}
 use Rattle.slots.specs.Slots as S
-use Rattle.slots.specs.Done.{Room}
+use Rattle.records.specs.Output.{Room}
 use Rattle.slots.specs.Call as C
 use Rattle.slots.specs.Call.{world, target}
-use Rattle.slots.specs.declared.Outcome.TheVariants.{Refused}
+use Rattle.std.specs.declared.result.Result.TheVariants.{Err}
 use Rattle.refinement.specs.Stands.{Stands}
 use Rattle.refinement.proofs.Transit.{counted}
 use Rattle.refinement.proofs.Queue.{waiters_counted}
@@ -67,7 +67,7 @@ unfolding C.call C.step C.verdict when◌then◌else◌
 call_few p m l Bad st = tt
 call_few p m l (Good e now) st = go (length l <? enough_room) (first (C.tests p e now)) refl
   where
-    go : (b : Bool) (x : Option Refusal) → first (C.tests p e now) ≡ x → FewIn (when b then world p l (Refused OutputShort) else C.judged p l e now (C.or_accept (target p e) x)).outcome
+    go : (b : Bool) (x : Option Refusal) → first (C.tests p e now) ≡ x → FewIn (when b then world p l (Err OutputShort) else C.judged p l e now (C.or_accept (target p e) x)).outcome
     go true x h = tt
     go false none h = event_few (clock_stands now st) e (target p e) (fit_clock now p (target p e) e (tests_passed st e now h).fit)
     go false (some r) h = tt

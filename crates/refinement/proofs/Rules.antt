@@ -1,7 +1,7 @@
 -- The rules of structure of a pool on slots, with no list in them; a pool is formed exactly where it keeps them.
 use Rattle.std.specs.Prelude.{◌≡◌, refl, List, [], ◌∷◌, ℕ, zero, suc, ◌+◌, ◌≤◌, ◌<◌, length, get_or, take}
 use Rattle.std.proofs.Common.{ap, sym, ◌∙◌, mod-lt, arith, length-take-le, eq-eqb, ne_eqb}
-use Rattle.std.proofs.Math.Option.{none, some}
+use Rattle.std.specs.Prelude.{None as none, Some as some}
 use Rattle.std.proofs.lemmas.List.{length-map}
 use Rattle.definition.specs.Booleans.{by_bool, by_eq}
 use Rattle.definition.specs.Words.{when◌then◌else◌}

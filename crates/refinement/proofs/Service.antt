@@ -10,7 +10,8 @@ use Rattle.definition.specs.Booleans.{by_eq}
 use Rattle.definition.specs.Words.{when◌then◌else◌, ◌<?◌, ◌≤?◌, ◌=?◌, ◌∷ʳ◌, some?}
 use Rattle.definition.specs.Pool as P
 use Rattle.definition.specs.Pool.{slot_count, Pool, Conn, Waiter, is_ready, total}
-use Rattle.definition.specs.Records.{Pooled, Establishing, Warmed, told}
+use Rattle.definition.specs.Records.{told}
+use Rattle.definition.specs.declared.Reply.TheVariants.{Pooled, Establishing, Warmed}
 use Rattle.definition.specs.Steps as D
 use Rattle.definition.specs.Steps.{nothing, emit, become}
 use Rattle.definition.specs.declared.Options.{Options}

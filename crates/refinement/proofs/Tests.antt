@@ -4,7 +4,7 @@ use Rattle.std.proofs.Common.{ap, sym, subst, ◌∙◌, true≢false, arith}
 use Rattle.std.specs.Prelude.{Bool, true, false, ◌&&◌, ◌||◌, List, [], ◌∷◌, ℕ, ◌≤◌, ◌<◌, ◌/◌, length}
 use Rattle.std.proofs.lemmas.Bool.{false≢true}
 use Rattle.std.proofs.Math.Bool.{not}
-use Rattle.std.proofs.Math.Option.{Option, none, some}
+use Rattle.std.specs.Prelude.{Option, None as none, Some as some}
 use Rattle.std.proofs.Math.ListN.{get_or-eq_default}
 use borrow.Author.Tests.{eqb-true, ne_eqb, leb-false, ltb-true, ltb-false, not-false}
 use Rattle.definition.specs.Booleans.{by_bool, by_eq, by_lt, and_left, and_right, or_left}
@@ -25,7 +25,7 @@ use Rattle.slots.specs.Finding.{holding_at, holding_none}
 use Rattle.slots.specs.View.{SlotPool, Slot, vacant}
 use Rattle.slots.specs.View as View
 use Rattle.slots.specs.Call as C
-use Rattle.slots.specs.declared.Verdict.TheVariants.{Accept}
+use Rattle.std.specs.declared.result.Result.TheVariants.{Ok}
 use Rattle.slots.specs.Call.{slot_of, waiter_of?, state_of, time_of, target}
 use Rattle.refinement.specs.Table.{look_at, look_none, cell, lookup, has_it, has_not}
 use Rattle.refinement.specs.Agree.{Class, Agrees, only, only_out, only_none}
@@ -248,10 +248,10 @@ module _ {p : SlotPool} {m : Pool} (st : Stands p m) where
       record { caused = n.0; clock = ltb-false now p.clock a.0; taken = b.0; numbers = c.0; fit = kind_fit e now c.1; timely = kind_timely p e now c.1 }
 
   -- and so where the verdict names a slot or a waiter: it is the event's
-  pub verdict_passed : (e : Event) (now i : ℕ) → C.verdict p e now ≡ Accept i → Passed p e now × (i ≡ target p e)
+  pub verdict_passed : (e : Event) (now i : ℕ) → C.verdict p e now ≡ Ok i → Passed p e now × (i ≡ target p e)
   unfolding C.verdict
   verdict_passed e now i h = go (first (C.tests p e now)) refl h
     where
-      go : (x : Option Refusal) → first (C.tests p e now) ≡ x → C.or_accept (target p e) x ≡ Accept i → Passed p e now × (i ≡ target p e)
+      go : (x : Option Refusal) → first (C.tests p e now) ≡ x → C.or_accept (target p e) x ≡ Ok i → Passed p e now × (i ≡ target p e)
       go none q g = (tests_passed e now q, (cc))
       go (some r) q g = let z : ◌≡◌ {A = ℕ} 0 1 = cc in absurd (omega arith)

@@ -4,7 +4,7 @@ use Rattle.std.specs.Prelude.{◌≡◌, refl, ◌≢◌, true, false, List, [],
 use Rattle.std.proofs.Common.{ap, sym, ◌∙◌, add-one, arith, length-set, length-append, get_or-set_same, get_or-set_other, set-set, take-suc, take-suc-set, length-take-le}
 use Rattle.std.proofs.lemmas.Bool.{false≢true}
 use Rattle.std.proofs.lemmas.List.{map-append, length-map, set-get_or, take-set-le}
-use Rattle.std.proofs.Math.Option.{some}
+use Rattle.std.specs.Prelude.{Some as some}
 use Rattle.definition.specs.Booleans.{by_eq}
 use Rattle.definition.specs.Words.{◌∷ʳ◌}
 use Rattle.definition.specs.Pool.{slot_count, Conn, without, set_state, state_no}

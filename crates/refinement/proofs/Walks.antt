@@ -6,7 +6,9 @@ use Rattle.definition.specs.Booleans.{by_lt}
 use Rattle.definition.specs.Words.{when◌then◌else◌, ◌<?◌, ◌∷ʳ◌}
 use Rattle.definition.specs.Pool as P
 use Rattle.definition.specs.Pool.{Pool, Conn, is_ready, stale_in, idle_for, total}
-use Rattle.definition.specs.Records.{Record, PoolShut, Gone}
+use Rattle.definition.specs.declared.Record.{Record}
+use Rattle.definition.specs.declared.Record.TheVariants.{PoolShut}
+use Rattle.definition.specs.declared.Reply.TheVariants.{Gone}
 use Rattle.definition.specs.Steps as D
 use Rattle.definition.specs.Steps.{closed_with_pool, emit, emit_all, become, ◌>>◌}
 use Rattle.definition.specs.declared.ClosedReason.{ClosedReason}

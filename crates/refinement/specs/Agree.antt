@@ -1,7 +1,7 @@
 -- A class of slots (the lent ones, the pending ones) and a list agree: whoever looks a number up finds the same.
 use Rattle.std.specs.Prelude.{◌≡◌, refl, Bool, true, false, List, ℕ, ◌<◌, length, get_or, set}
 use Rattle.std.proofs.Common.{ap, sym, ◌∙◌, arith}
-use Rattle.std.proofs.Math.Option.{Option, none, some}
+use Rattle.std.specs.Prelude.{Option, None as none, Some as some}
 use Rattle.definition.specs.Booleans.{by_eq}
 use Rattle.definition.specs.Words.{when◌then◌else◌, ◌∷ʳ◌}
 use Rattle.definition.specs.Pool.{Conn, without, set_state, state_no}

@@ -7,8 +7,8 @@ use Rattle.definition.specs.Refusals.{after, run}
 use Rattle.definition.specs.declared.Frame.{Frame}
 use Rattle.slots.specs.View.{SlotPool}
 use Rattle.slots.specs.Call as C
-use Rattle.slots.specs.declared.Outcome.{Outcome}
-use Rattle.slots.specs.declared.Outcome.TheVariants.{Refused, Accepted}
+use Rattle.slots.specs.Outcome.{Outcome}
+use Rattle.std.specs.declared.result.Result.TheVariants.{Ok, Err}
 use Rattle.refinement.specs.Stands.{Stands}
 use Rattle.refinement.specs.Call.{Refines}
 
@@ -29,8 +29,8 @@ ran (c ∷ cs) p = ran cs (C.call p c.out c.frame).pool
 
 -- how many records they were said to have written
 abbrev pub wrote : Outcome → ℕ
-wrote (Refused r) = 0
-wrote (Accepted n) = n
+wrote (Err r) = 0
+wrote (Ok n) = n
 
 unfoldable pub writes : List Lent → SlotPool → ℕ
 writes [] p = 0

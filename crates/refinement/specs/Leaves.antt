@@ -7,7 +7,7 @@ use Rattle.std.proofs.lemmas.Bool.{false≢true}
 use Prim.Native.Nat.{ℕ, zero, suc, ◌+◌, ◌≤◌}
 use Rattle.definition.specs.Words.{when◌then◌else◌}
 use Rattle.definition.specs.Pool.{Waiter, is_ready, is_closed}
-use Rattle.definition.specs.Records.{Record}
+use Rattle.definition.specs.declared.Record.{Record}
 use Rattle.definition.specs.Steps.{Out, Act, nothing, emit, become, ◌>>◌}
 use Rattle.definition.specs.Refusals.{taken_after_close}
 use Rattle.definition.specs.declared.ClosedReason.{ClosedReason}

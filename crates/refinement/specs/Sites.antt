@@ -11,7 +11,10 @@ use Rattle.std.proofs.Math.Seq.{set_out}
 use Rattle.definition.specs.Booleans.{by_eq, by_lt}
 use Rattle.definition.specs.Words.{when◌then◌else◌}
 use Rattle.definition.specs.Pool.{slot_count, Waiter, is_ready}
-use Rattle.definition.specs.Records.{Record, Reply, PoolCleared, Cleared}
+use Rattle.definition.specs.declared.Record.{Record}
+use Rattle.definition.specs.declared.Record.TheVariants.{PoolCleared}
+use Rattle.definition.specs.declared.Reply.{Reply}
+use Rattle.definition.specs.declared.Reply.TheVariants.{Cleared}
 use Rattle.definition.specs.Steps.{Out, Act, nothing, emit, become, ◌>>◌}
 use Rattle.definition.specs.declared.ClosedReason.{ClosedReason}
 use Rattle.definition.specs.declared.Event.{Event}
@@ -116,7 +119,7 @@ unfolding S.interrupted when◌then◌else◌
 interrupted_same true p = refl
 interrupted_same false p = refl
 
-cleared_generation : (timeout : Bool) (cause : ℕ) (p : SlotPool) → (S.cleared_ready timeout cause p).pool.generation ≡ p.generation
+pub cleared_generation : (timeout : Bool) (cause : ℕ) (p : SlotPool) → (S.cleared_ready timeout cause p).pool.generation ≡ p.generation
 unfolding S.cleared_ready S.tell_all when◌then◌else◌ ◌>>◌
 cleared_generation timeout cause p = go (is_ready p.state)
   where
@@ -124,11 +127,11 @@ cleared_generation timeout cause p = go (is_ready p.state)
     go true = refl
     go false = refl
 
-told_generation : (r : Reply) (p : SlotPool) → (S.tell_all r p).pool.generation ≡ p.generation
+pub told_generation : (r : Reply) (p : SlotPool) → (S.tell_all r p).pool.generation ≡ p.generation
 unfolding S.tell_all ◌>>◌
 told_generation r p = refl
 
-close_front_generation : (k : ℕ) (p : SlotPool) → (S.close_front k p).pool.generation ≡ p.generation
+pub close_front_generation : (k : ℕ) (p : SlotPool) → (S.close_front k p).pool.generation ≡ p.generation
 unfolding S.close_front S.pop_front S.close_at ◌>>◌
 close_front_generation zero p = refl
 close_front_generation (suc k) p = close_front_generation k _

@@ -1,25 +1,40 @@
 -- One law for each exit of a request: what the code knows there gives the step's outcome.
-use Rattle.std.specs.Prelude.{◌≡◌, refl, Bool, List, ℕ, ◌+◌, ◌*◌, set}
-use Rattle.definition.specs.Bytes.{serial_of, record_bytes}
+use Rattle.std.specs.Prelude.{◌≡◌, refl, Bool, true, false, ℕ, ◌+◌, ◌*◌, set}
+use Rattle.std.proofs.Common.{sym, ap, ◌∙◌}
+use mir.Val.{bool_byte}
+use Rattle.definition.specs.Words.{when◌then◌else◌}
 use Rattle.definition.specs.Events.{bit}
-use Rattle.definition.specs.Records.{fields, Replied, Cleared}
+use Rattle.definition.specs.Steps.{emit}
+use Rattle.definition.specs.declared.Record.TheVariants.{Replied}
+use Rattle.definition.specs.declared.Reply.TheVariants.{Cleared}
 use Rattle.definition.specs.declared.PoolState.TheVariants.{New, Paused, Ready, Closed}
-use Rattle.slots.specs.Laid.{laid}
-use Rattle.slots.specs.View.{SlotPool, with_last_request, with_waiters}
-use Rattle.slots.specs.Done.{Done}
-use Rattle.slots.specs.DoneLaws.{done_emit, done_quiet, done_as}
+use Rattle.records.specs.Output.{Emits}
+use Rattle.records.specs.declared.Records.{Records}
+use Rattle.slots.specs.View.{SlotPool, pool_in, with_last_request, with_waiters}
+use Rattle.slots.specs.Done.{Did}
+use Rattle.slots.specs.DoneLaws.{did_emit, did_quiet, did_as}
 use Rattle.slots.specs.StepLaws.{request_new, request_paused, request_ready, request_closed}
 use Rattle.slots.specs.Slots.{request}
+use Rattle.slots.specs.declared.ConnectionPoolWorker.{ConnectionPoolWorker}
 
-module _ (p : SlotPool) (id : ℕ) (warm : Bool) {s n : ℕ} {l : List ℕ} where
-  pub asked_new : {x : ℕ} {k : List ℕ} → p.state ≡ New → x ≡ id → k ≡ laid l (16 * n) (record_bytes (serial_of (s + n)) (fields 19 0 x 0)) → Done (request id warm p) s n l (with_last_request p id) (n + 1) k
-  asked_new h e o = done_as (request_new p id warm h) (done_emit (Replied id (Cleared 0)) _ refl (rw (← e) o))
+-- the mark of a warm waiter
+mark : (b : Bool) → bool_byte b ≡ bit 1 b
+unfolding when◌then◌else◌
+mark true = refl
+mark false = refl
 
-  pub asked_paused : {x : ℕ} {k : List ℕ} (cause : ℕ) → p.state ≡ Paused cause → x ≡ id → k ≡ laid l (16 * n) (record_bytes (serial_of (s + n)) (fields 19 0 x cause)) → Done (request id warm p) s n l (with_last_request p id) (n + 1) k
-  asked_paused cause h e o = done_as (request_paused p id warm cause h) (done_emit (Replied id (Cleared cause)) _ refl (rw (← e) o))
+module _ (p : SlotPool) (id : ℕ) (warm : Bool) (v : ConnectionPoolWorker) {o : Records} where
+  answered : {o' : Records} (cause : ℕ) → request id warm p ≡ emit (Replied id (Cleared cause)) (with_last_request p id) → pool_in v ≡ with_last_request p id → Emits (Replied id (Cleared cause)) o o' → Did (request id warm p) v o o'
+  answered cause h e s = did_as (h ∙ ap (emit (Replied id (Cleared cause))) (sym e)) (did_emit v s)
 
-  pub asked_ready : {x m : ℕ} → p.state ≡ Ready → x ≡ id → m ≡ bit 1 warm → Done (request id warm p) s n l (with_waiters (with_last_request p id) (set p.waiters p.waitings (4 * x + m)) (p.waitings + 1)) n l
-  asked_ready h e f = done_as (request_ready p id warm h) (done_quiet _ refl (rw (e, f)))
+  pub asked_new : {o' : Records} → p.state ≡ New → pool_in v ≡ with_last_request p id → Emits (Replied id (Cleared 0)) o o' → Did (request id warm p) v o o'
+  asked_new h e s = answered 0 (request_new p id warm h) e s
 
-  pub asked_closed : p.state ≡ Closed → Done (request id warm p) s n l (with_last_request p id) n l
-  asked_closed h = done_as (request_closed p id warm h) (done_quiet _ refl refl)
+  pub asked_paused : {o' : Records} (cause : ℕ) → p.state ≡ Paused cause → pool_in v ≡ with_last_request p id → Emits (Replied id (Cleared cause)) o o' → Did (request id warm p) v o o'
+  asked_paused cause h e s = answered cause (request_paused p id warm cause h) e s
+
+  pub asked_ready : p.state ≡ Ready → pool_in v ≡ with_waiters (with_last_request p id) (set p.waiters p.waitings (4 * id + bool_byte warm)) (p.waitings + 1) → Did (request id warm p) v o o
+  asked_ready h e = did_as (request_ready p id warm h) (did_quiet v refl (e ∙ ap (λ (m : ℕ). with_waiters (with_last_request p id) (set p.waiters p.waitings (4 * id + m)) (p.waitings + 1)) (mark warm)))
+
+  pub asked_closed : p.state ≡ Closed → pool_in v ≡ with_last_request p id → Did (request id warm p) v o o
+  asked_closed h e = did_as (request_closed p id warm h) (did_quiet v refl e)

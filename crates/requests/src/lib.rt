@@ -1,67 +1,34 @@
 // A request comes to the queue or is answered at once, and one that waits is marked as abandoned.
 #![tactic(auto)]
 
-ghost use Rattle.std.specs.Prelude.{◌≡◌, ◌+◌, ◌≤◌, ◌<◌, ◌%◌, get_or};
+ghost use Rattle.std.specs.Prelude.{◌≡◌, ◌+◌, ◌<◌, ◌%◌, get_or};
 ghost use Rattle.definition.specs.Pool.{queue_length};
-ghost use Rattle.definition.specs.Events.{bit};
-ghost use Rattle.slots.specs.View.{given, before, after, Whole};
-ghost use Rattle.slots.specs.Done.{Room, Done};
+ghost use Rattle.records.specs.Output.{RoomFor};
+ghost use Rattle.slots.specs.View.{pool_in};
+ghost use Rattle.slots.specs.Done.{Does};
 ghost use Rattle.slots.specs.Needs.{CanQueue};
 ghost use Rattle.slots.specs.Slots.{request, abandon_at};
 
-use acts::Progress;
-use definition::PoolState;
-use slots::{Head, Numbers, States, Times, Waiters};
+use definition::{PoolState, Record, Reply};
+use records::Records;
+use slots::ConnectionPoolWorker;
 
 // A request: to the queue's back if Ready, else answered at once with the cause.
-pub fn request(
-    head: Head,
-    numbers: &mut Numbers,
-    times: &mut Times,
-    states: &mut States,
-    waiters: &mut Waiters,
-    out: &mut [u8],
-    n: u32,
-    id: u32,
-    warm: bool,
-) -> Progress
-    requires { Whole (given head numbers times states waiters) × CanQueue (given head numbers times states waiters) × Room 1 n out.old }
-    ensures { Done (request id warm (before head numbers times states waiters)) head.serial n out.old (after result.head numbers times states waiters) result.count out.new }
+pub fn request(worker: &mut ConnectionPoolWorker, records: &mut Records, id: u32, warm: bool)
+    requires { CanQueue (pool_in worker.old) × RoomFor 1 records.old }
+    ensures { Does (request id warm) worker records }
 {
-    let mut h = head;
-    h.last_request = id;
-    let m = head.status;
-    let st = m.state;
-    match st {
-        PoolState::New => {
-            records::emit(out, n, h.serial, 19, 0, words::as_u64(id), 0);
-            Progress {
-                head: h,
-                count: n + 1,
-            }
-        }
-        PoolState::Paused(cause) => {
-            records::emit(out, n, h.serial, 19, 0, words::as_u64(id), cause);
-            Progress {
-                head: h,
-                count: n + 1,
-            }
-        }
+    worker.head.last_request = id;
+    match worker.head.status.state {
+        PoolState::New => records.emit(Record::Replied(id, Reply::Cleared(0))),
+        PoolState::Paused(cause) => records.emit(Record::Replied(id, Reply::Cleared(cause))),
         PoolState::Ready => {
-            let k = h.waiting_count;
-            waiters[k] = 4 * words::as_u64(id) + mark(warm);
-            h.waiting_count = k + 1;
-            Progress { head: h, count: n }
+            let k = worker.head.waiting_count;
+            worker.waiters[k] = 4 * id as u64 + warm as u64;
+            worker.head.waiting_count = k + 1;
         }
-        PoolState::Closed => Progress { head: h, count: n },
+        PoolState::Closed => {}
     }
-}
-
-// The mark of a warm waiter.
-fn mark(warm: bool) -> u64
-    ensures { (result ≡ bit 1 warm) × (result ≤ 1) }
-{
-    if warm { 1 } else { 0 }
 }
 
 // The marks of a waiter, and that of an abandoned one.
@@ -73,16 +40,9 @@ fn abandoned(w: u64) -> u64
 }
 
 // The waiter at place k, not abandoned so far, is marked so.
-pub fn abandon(
-    head: Head,
-    numbers: &mut Numbers,
-    times: &mut Times,
-    states: &mut States,
-    waiters: &mut Waiters,
-    k: usize,
-)
-    requires { Whole (given head numbers times states waiters) × (k < queue_length) × (get_or waiters.old k 0 % 4 < 2) }
-    ensures { after head numbers times states waiters ≡ (abandon_at k (before head numbers times states waiters)).pool }
+pub fn abandon(worker: &mut ConnectionPoolWorker, k: usize)
+    requires { (k < queue_length) × (get_or worker.old.waiters k 0 % 4 < 2) }
+    ensures { pool_in worker.new ≡ (abandon_at k (pool_in worker.old)).pool }
 {
-    waiters[k] = abandoned(waiters[k]);
+    worker.waiters[k] = abandoned(worker.waiters[k]);
 }

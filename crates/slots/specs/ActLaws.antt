@@ -1,5 +1,7 @@
 -- What the acts leave of what the next act asks for, and what looking at an available connection tells.
-use Rattle.std.specs.Prelude.{◌≡◌, refl, Bool, true, false, ◌||◌, List, [], ◌∷◌, ℕ, zero, suc, ◌+◌, ◌-◌, ◌≤◌, ◌<◌, min, length, get_or, set}
+use Rattle.std.specs.Prelude.{◌≡◌, refl, Bool, true, false, ◌||◌, List, [], ◌∷◌, ℕ, zero, suc, ◌+◌, ◌-◌, ◌≤◌, ◌<◌, min, length, get_or, set, Some, None}
+use Rattle.std.specs.declared.option.Option.{Option}
+use Rattle.std.proofs.lemmas.Option.{none-some, same_Some}
 use Rattle.std.proofs.Common.{sym, ap, ◌∙◌, arith}
 use Rattle.std.proofs.Math.ListN.{length-set}
 use Rattle.definition.specs.Words.{when◌then◌else◌, ◌<?◌, ◌=?◌}
@@ -8,13 +10,12 @@ use Rattle.definition.specs.Steps.{◌>>◌}
 use Rattle.definition.specs.declared.ClosedReason.{ClosedReason}
 use Rattle.definition.specs.declared.ClosedReason.TheVariants.{Idle, Stale}
 use Rattle.slots.specs.OrderLaws.{shifted_below, length_shifted, set_below}
-use Rattle.slots.specs.View.{SlotPool, Slot, Whole, slots_of, order_in, slot_at, stale_at, idle_at, perished_at}
-use Rattle.slots.specs.Parts.{slots_at}
-use Rattle.slots.specs.Codes.{reason_of, perished_no, perished_age, Examines}
-use Rattle.slots.specs.CodeLaws.{perished_no_lem}
+use Rattle.slots.specs.View.{SlotPool, Slot, Whole, pool_in, slot_at, stale_at, idle_at, perished_at, age_told_at}
+use Rattle.slots.specs.Parts.{slot_at_lem, generation_at}
+use Rattle.slots.specs.Codes.{why_at, Examines}
 use Rattle.slots.specs.Needs.{taken, CanPrune}
 use Rattle.slots.specs.Slots.{close_at, pop_front, pop_back, create_pending_connection, zeroed}
-use Rattle.slots.specs.declared.Head.{Head}
+use Rattle.slots.specs.declared.ConnectionPoolWorker.{ConnectionPoolWorker}
 
 -- ── Ids taken ──
 
@@ -48,57 +49,48 @@ zeroed_more (suc k) (x ∷ l) = ap (λ (r : List ℕ). 0 ∷ r) (zeroed_more k l
 
 -- ── An available connection is looked at ──
 
-stale_or_idle : (b c : Bool) (r : ℕ) → r ≡ (when b || c then (when b then 2 else 1) else 0) → (r ≡ 0 → ⊥)
-    → (b || c ≡ true) × ((when b then Stale else Idle) ≡ reason_of r) × (0 < r) × (r ≤ 5)
+said_some : {A : Type 0} (b : Bool) (x : A) {y : A} → ◌≡◌ {A = Option A} (Some y) (when b then Some x else None) → (b ≡ true) × (y ≡ x)
 unfolding when◌then◌else◌
-stale_or_idle true c r e n = (refl, rw e, omega arith, omega arith)
-stale_or_idle false true r e n = (refl, rw e, omega arith, omega arith)
-stale_or_idle false false r e n = absurd (n e)
+said_some true x e = (refl, same_Some _ _ e)
+said_some false x e = absurd (none-some _ (sym e))
 
-healthy : (b c : Bool) → ◌≡◌ {A = ℕ} (when b || c then (when b then 2 else 1) else 0) 0 → b || c ≡ false
+said_none : {A : Type 0} (b : Bool) (x : A) → ◌≡◌ {A = Option A} None (when b then Some x else None) → b ≡ false
 unfolding when◌then◌else◌
-healthy true c e = absurd (omega arith)
-healthy false true e = absurd (omega arith)
-healthy false false e = refl
-
--- the number of why slot i is closed
-abbrev pub perished_no_at : SlotPool → ℕ → ℕ
-perished_no_at p i = perished_no p.generation p.options.idle p.clock (slot_at p i).generation (slot_at p i).time
+said_none true x e = absurd (none-some _ e)
+said_none false x e = refl
 
 -- what `examine` gives, read off the columns and said of the slots: of a stale one, and of any other, whose age is what the idle test answers
-module _ (h : Head) (ns ts ss : List ℕ) (w : length (slots_of ns ts ss) ≡ slot_count) (k i : ℕ) (e : i ≡ get_or (order_in ss) k 0) (low : i < slot_count) where
-  examined : {r told : ℕ} → r ≡ perished_no h.status.generation h.options.idle h.clock (get_or ns (slot_count + i) 0) (get_or ts i 0)
-      → told ≡ perished_age h.status.generation h.options.idle h.clock (get_or ns (slot_count + i) 0) (get_or ts i 0)
-      → Examines h (slots_of ns ts ss) (order_in ss) k i r told
-  examined f g = record {
-    slot = e;
-    reason = f ∙ ap (λ (s : Slot). perished_no h.status.generation h.options.idle h.clock s.generation s.time) (sym (slots_at ns ts ss w i low));
-    told = g ∙ ap (λ (s : Slot). perished_age h.status.generation h.options.idle h.clock s.generation s.time) (sym (slots_at ns ts ss w i low));
-  }
+module _ (w : ConnectionPoolWorker) (whole : Whole (pool_in w)) (k i : ℕ) (e : i ≡ get_or w.available k 0) (low : i < slot_count) where
+  since : (slot_at (pool_in w) i).time ≡ get_or w.times i 0
+  since = ap (λ (s : Slot). s.time) (slot_at_lem w whole i low)
 
-  module _ {stale : Bool} (st : stale ≡ stale_in h.status.generation (get_or ns (slot_count + i) 0)) where
-    pub examined_stale : stale ≡ true → Examines h (slots_of ns ts ss) (order_in ss) k i 2 0
-    unfolding when◌then◌else◌
-    examined_stale y = examined (rw (sym st ∙ y)) (rw (sym st ∙ y))
+  module _ {stale : Bool} (st : stale ≡ stale_in w.head.status.generation (get_or w.generations i 0)) where
+    is_stale : {b : Bool} → stale ≡ b → stale_at (pool_in w) i ≡ b
+    is_stale y = ap (stale_in w.head.status.generation) (generation_at w whole i low) ∙ sym st ∙ y
 
-    pub examined_current : stale ≡ false → {age : ℕ} → age ≡ idle_for h.options.idle (get_or ts i 0) h.clock
-        → {r : ℕ} → r ≡ (when 0 <? age then 1 else 0) → {told : ℕ} → told ≡ min age most_age → Examines h (slots_of ns ts ss) (order_in ss) k i r told
+    pub examined_stale : stale ≡ true → Examines (pool_in w) k i (Some (Stale, 0))
     unfolding when◌then◌else◌
-    examined_current n old f g = examined (rw (sym st ∙ n, ← old) f) (rw (sym st ∙ n, ← old) g)
+    examined_stale y = record { slot = e; why = rw (is_stale y) refl }
+
+    pub examined_current : stale ≡ false → {age : ℕ} → age ≡ idle_for w.head.options.idle (get_or w.times i 0) w.head.clock
+        → {why : Option (ClosedReason × ℕ)} → why ≡ (when 0 <? age then Some (Idle, min age most_age) else None) → Examines (pool_in w) k i why
+    unfolding when◌then◌else◌
+    examined_current n old f = record { slot = e; why = rw (is_stale n, since, ← old) f }
 
 -- what follows from it
-module _ (p : SlotPool) (i r : ℕ) (e : r ≡ perished_no_at p i) where
-  pub is_healthy : r ≡ 0 → perished_at p i ≡ false
-  is_healthy z = healthy (stale_at p i) (0 <? idle_at p i) (sym (perished_no_lem p i) ∙ sym e ∙ z)
+module _ (p : SlotPool) (i : ℕ) where
+  pub is_healthy : ◌≡◌ {A = Option (ClosedReason × ℕ)} None (why_at p i) → perished_at p i ≡ false
+  is_healthy e = said_none (perished_at p i) _ e
 
-  pub is_perished : (r ≡ 0 → ⊥) → perished_at p i ≡ true
-  is_perished n = (stale_or_idle (stale_at p i) (0 <? idle_at p i) r (e ∙ perished_no_lem p i) n).0
+  module _ {reason : ClosedReason} {age : ℕ} (e : ◌≡◌ {A = Option (ClosedReason × ℕ)} (Some (reason, age)) (why_at p i)) where
+    pub is_perished : perished_at p i ≡ true
+    is_perished = (said_some (perished_at p i) _ e).0
 
-  pub perished_reason : (r ≡ 0 → ⊥) → (when stale_at p i then Stale else Idle) ≡ reason_of r
-  perished_reason n = (stale_or_idle (stale_at p i) (0 <? idle_at p i) r (e ∙ perished_no_lem p i) n).1
+    pub perished_reason : reason ≡ (when stale_at p i then Stale else Idle)
+    perished_reason = ap (λ (x : ClosedReason × ℕ). x.0) (said_some (perished_at p i) _ e).1
 
-  pub perished_number : (r ≡ 0 → ⊥) → (0 < r) × (r ≤ 5)
-  perished_number n = let h = stale_or_idle (stale_at p i) (0 <? idle_at p i) r (e ∙ perished_no_lem p i) n in (h.2, h.3)
+    pub perished_age : age ≡ age_told_at p i
+    perished_age = ap (λ (x : ClosedReason × ℕ). x.1) (said_some (perished_at p i) _ e).1
 
 -- ── The pool after an act ──
 

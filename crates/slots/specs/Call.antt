@@ -1,6 +1,6 @@
 -- One call on slots: the tests by lookup, and what the call leaves.
 use Rattle.std.specs.Prelude.{Bool, not, ◌&&◌, ◌||◌, List, [], ◌∷◌, ℕ, ◌+◌, ◌%◌, length, get_or}
-use Rattle.std.proofs.Math.Option.{Option, none, some}
+use Rattle.std.specs.Prelude.{Option, None as none, Some as some}
 use Rattle.definition.specs.Words.{when◌then◌else◌, ◌<?◌, ◌≤?◌, ◌=?◌}
 use Rattle.definition.specs.Pool.{is_closed, queue_length}
 use Rattle.definition.specs.Steps.{Out, kind_no, ◌to◌holds◌}
@@ -16,10 +16,8 @@ use Rattle.slots.specs.Order.{slot_holding, place_of}
 use Rattle.slots.specs.View.{SlotPool, slot_at, with_clock, with_serial}
 use Rattle.slots.specs.Slots.{event}
 use Rattle.slots.specs.Done.{lay}
-use Rattle.slots.specs.declared.Verdict.{Verdict}
-use Rattle.slots.specs.declared.Verdict.TheVariants.{Refuse, Accept}
-use Rattle.slots.specs.declared.Outcome.{Outcome}
-use Rattle.slots.specs.declared.Outcome.TheVariants.{Refused, Accepted}
+use Rattle.slots.specs.Outcome.{Verdict, Outcome}
+use Rattle.std.specs.declared.result.Result.TheVariants.{Ok, Err}
 
 -- the slot of a connection's id, slot_count where it has none; the place of a waiting request, past the last where it does not wait
 module _ (p : SlotPool) (n : ℕ) where
@@ -92,8 +90,8 @@ tests p e now =
     kind_tests p e now
 
 abbrev pub or_accept : ℕ → Option Refusal → Verdict
-or_accept i none = Accept i
-or_accept i (some r) = Refuse r
+or_accept i none = Ok i
+or_accept i (some r) = Err r
 
 unfoldable pub verdict : SlotPool → Event → ℕ → Verdict
 verdict p e now = or_accept (target p e) (first (tests p e now))
@@ -109,16 +107,16 @@ world p l o = record { pool = p; out = l; outcome = o }
 
 -- the records begin the output; the serial moves past them once, at the event's end
 abbrev pub accepted : SlotPool → List ℕ → Out SlotPool → World
-accepted p l o = world (with_serial o.pool (serial_of (p.serial + length o.records))) (lay p.serial 0 o.records l) (Accepted (length o.records))
+accepted p l o = world (with_serial o.pool (serial_of (p.serial + length o.records))) (lay p.serial 0 o.records l) (Ok (length o.records))
 
 abbrev pub judged : SlotPool → List ℕ → Event → ℕ → Verdict → World
-judged p l e now (Refuse r) = world p l (Refused r)
-judged p l e now (Accept i) = accepted p l (event e i (with_clock p now))
+judged p l e now (Err r) = world p l (Err r)
+judged p l e now (Ok i) = accepted p l (event e i (with_clock p now))
 
 unfoldable pub step : SlotPool → List ℕ → Event → ℕ → World
 step p l e now = judged p l e now (verdict p e now)
 
 -- any frame, any output
 unfoldable pub call : SlotPool → List ℕ → Frame → World
-call p l Bad = world p l (Refused (when length l <? enough_room then OutputShort else Malformed))
-call p l (Good e now) = when length l <? enough_room then world p l (Refused OutputShort) else step p l e now
+call p l Bad = world p l (Err (when length l <? enough_room then OutputShort else Malformed))
+call p l (Good e now) = when length l <? enough_room then world p l (Err OutputShort) else step p l e now

@@ -3,11 +3,16 @@ use Rattle.std.specs.Prelude.{◌≡◌, List, [], ◌∷◌, ◌++◌, ℕ, suc
 use Rattle.std.proofs.Math.Path.{refl, ap}
 use Rattle.std.proofs.Common.{sym, ◌∙◌, arith}
 use Rattle.std.proofs.Math.ListN.{length, length-append}
-use Rattle.definition.specs.Records.{Record, fields_of}
+use Rattle.definition.specs.Records.{fields_of}
+use Rattle.definition.specs.declared.Record.{Record}
 use Rattle.definition.specs.Steps.{Out, Act, emit, ◌>>◌}
 use Rattle.definition.specs.Bytes.{serial_of, record_bytes}
-use Rattle.slots.specs.Laid.{laid}
-use Rattle.slots.specs.Done.{lay, Done, Underway}
+use Rattle.records.specs.Laid.{laid}
+use Rattle.records.specs.Output.{Kept, Emits}
+use Rattle.records.specs.declared.Records.{Records}
+use Rattle.slots.specs.View.{SlotPool, pool_in}
+use Rattle.slots.specs.declared.ConnectionPoolWorker.{ConnectionPoolWorker}
+use Rattle.slots.specs.Done.{lay, Done, Did, Underway, Going}
 
 pub lay_append : (s n : ℕ) (a b : List Record) (l : List ℕ) → lay s n (a ++ b) l ≡ lay s (n + length a) b (lay s n a l)
 unfolding lay
@@ -73,3 +78,54 @@ module _ {P : Type 0} where
         count = rw d.pool (omega (arith, c, t.count, length-append (a p).records (b (a p).pool).records));
         out = rw (d.pool, d.out, c) (sym (lay_append _ _ (a p).records (b (a p).pool).records _) ∙ t.out);
       }
+
+-- ── Of a worker and its output ──
+
+pub kept_same : (o : Records) → Kept o o
+kept_same o = record { serial = refl; long = refl; same = refl }
+
+pub kept_then : {o o₁ o₂ : Records} → Kept o o₁ → Kept o₁ o₂ → Kept o o₂
+kept_then a b = record { serial = b.serial ∙ a.serial; long = b.long ∙ a.long; same = b.same ∙ a.same }
+
+pub did_then : (a b : Act SlotPool) (p : SlotPool) {v v' : ConnectionPoolWorker} {o o₁ o₂ : Records} → Did (a p) v o o₁ → Did (b (pool_in v)) v' o₁ o₂ → Did ((a >> b) p) v' o o₂
+did_then a b p {v} {v'} d e = record {
+  done = done_then a b p (pool_in v) (pool_in v') d.done (done_serial d.kept.serial e.done);
+  kept = kept_then d.kept e.kept;
+}
+
+pub did_emit : {r : Record} (v : ConnectionPoolWorker) {o o' : Records} → Emits r o o' → Did (emit r (pool_in v)) v o o'
+did_emit {r} v e = record { done = done_emit r (pool_in v) e.count e.out; kept = e.kept }
+
+-- an act that writes nothing
+pub did_quiet : {x : Out SlotPool} (v : ConnectionPoolWorker) {o : Records} → x.records ≡ [] → pool_in v ≡ x.pool → Did x v o o
+did_quiet {x} v {o} e f = record { done = done_quiet x e f; kept = kept_same o }
+
+pub did_nothing : (v : ConnectionPoolWorker) {o : Records} → Did (record { pool = pool_in v; records = [] }) v o o
+did_nothing v {o} = record { done = done_nothing (pool_in v); kept = kept_same o }
+
+-- the outcome by another name
+pub did_as : {x x' : Out SlotPool} {v : ConnectionPoolWorker} {o o' : Records} → x' ≡ x → Did x v o o' → Did x' v o o'
+did_as e d = rw e d
+
+-- ── In a loop ──
+
+pub going_start : (x : Out SlotPool) (o : Records) → Going x o x o
+going_start x o = record { told = underway_start x o.serial o.count o.out.now; kept = kept_same o }
+
+pub going_done : {x : Out SlotPool} {o₀ : Records} (v : ConnectionPoolWorker) {o : Records} → Going x o₀ (record { pool = pool_in v; records = [] }) o → Did x v o₀ o
+going_done v {o} g = record { done = underway_done (pool_in v) o.count o.out.now g.told; kept = g.kept }
+
+pub going_then : {x : Out SlotPool} {o₀ : Records} (x' : Out SlotPool) {v : ConnectionPoolWorker} {o o' : Records} → Going x o₀ x' o → Did x' v o o' → Did x v o₀ o'
+going_then x' g d = record { done = underway_then x' g.told (done_serial g.kept.serial d.done); kept = kept_then g.kept d.kept }
+
+-- a turn does the act a, and what is left to do is b; it may write nothing
+pub going_step : {x : Out SlotPool} {o₀ : Records} (a b : Act SlotPool) (p : SlotPool) {v : ConnectionPoolWorker} {o o' : Records}
+    → Going x o₀ ((a >> b) p) o → Did (a p) v o o' → Going x o₀ (b (pool_in v)) o'
+going_step a b p {v} g d = record { told = underway_step a b p (pool_in v) g.told (done_serial g.kept.serial d.done); kept = kept_then g.kept d.kept }
+
+pub going_quiet : {x : Out SlotPool} {o₀ : Records} (a b : Act SlotPool) (p q : SlotPool) {o : Records}
+    → Going x o₀ ((a >> b) p) o → (a p).records ≡ [] → q ≡ (a p).pool → Going x o₀ (b q) o
+going_quiet a b p q g e f = record { told = underway_step a b p q g.told (done_quiet (a p) e f); kept = g.kept }
+
+pub going_as : {x y y' : Out SlotPool} {o₀ o : Records} → y ≡ y' → Going x o₀ y o → Going x o₀ y' o
+going_as e g = rw (sym e) g

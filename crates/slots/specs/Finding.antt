@@ -3,9 +3,8 @@ use Rattle.std.specs.Prelude.{◌≡◌, Bool, true, false, List, [], ◌∷◌,
 use Rattle.std.proofs.Common.{inl, inr, eq-or-lt_of_le, arith, get_or-set_same}
 use Rattle.definition.specs.Words.{when◌then◌else◌, ◌=?◌}
 use Rattle.definition.specs.Pool.{slot_count}
-use Rattle.slots.specs.Columns.{column}
 use Rattle.slots.specs.Order.{place_by, place, slot_holding, vacant_slot}
-use Rattle.slots.specs.OrderLaws.{place_most, place_found, place_before, place_front}
+use Rattle.slots.specs.OrderLaws.{place_most, place_found, place_before}
 use Rattle.slots.specs.Needs.{taken}
 
 module _ (ids : List ℕ) where
@@ -22,16 +21,6 @@ module _ (ids : List ℕ) where
   pub vacant_at : vacant_slot ids < slot_count → get_or ids (vacant_slot ids) 0 ≡ 0
   unfolding vacant_slot
   vacant_at h = place_found (λ v. v) 0 slot_count ids h
-
--- the code looks through the array in which the ids are the first column
-module _ (numbers : List ℕ) where
-  pub holding_in : (id : ℕ) → slot_holding id (column 0 numbers) ≡ place id slot_count numbers
-  unfolding slot_holding column
-  holding_in id = place_front (λ v. v) id slot_count slot_count numbers (omega arith)
-
-  pub vacant_in : vacant_slot (column 0 numbers) ≡ place 0 slot_count numbers
-  unfolding vacant_slot column
-  vacant_in = place_front (λ v. v) 0 slot_count slot_count numbers (omega arith)
 
 place_if : (b : Bool) (n t x : ℕ) → (when b then 0 else 1) + t < suc n → (t < n → x < n) → (when b then 0 else suc x) < suc n
 unfolding when◌then◌else◌

@@ -1,7 +1,7 @@
 pub mod Order
-pub mod Laid
 pub mod Columns
 pub mod OrderLaws
+pub mod Outcome
 pub mod View
 pub mod Done
 pub mod Slots

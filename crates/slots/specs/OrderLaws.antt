@@ -9,7 +9,7 @@ use Rattle.definition.specs.Words.{when◌then◌else◌, ◌=?◌}
 use Rattle.definition.specs.Records.{Fields}
 use Rattle.definition.specs.Bytes.{record_bytes}
 use Rattle.slots.specs.Order.{place_by, shifted}
-use Rattle.slots.specs.Laid.{laid}
+use Rattle.records.specs.Laid.{laid}
 
 -- ── Cells behind the first ─────────────────────────────────────────────────────────────────────────────────────────────
 
@@ -93,14 +93,6 @@ place_none f x (suc n) l m =
     place_either (λ (r : ℕ). r ≡ suc n) f x n l
     (λ yes. absurd (m 0 (omega arith) yes))
     (λ _. ap suc (place_none f x n (drop 1 l) (missed_tail f x n l m)))
-
--- what stands behind the first n does not matter
-pub place_front : (f : ℕ → ℕ) (x n m : ℕ) (l : List ℕ) → n ≤ m → place_by f x n (take m l) ≡ place_by f x n l
-unfolding place_by
-place_front f x zero m l h = refl
-place_front f x (suc n) zero l h = absurd (omega arith)
-place_front f x (suc n) (suc m) [] h = refl
-place_front f x (suc n) (suc m) (y ∷ l) h = ap (λ (r : ℕ). when f y =? x then 0 else suc r) (place_front f x n m l (omega arith))
 
 -- ── The shift ──────────────────────────────────────────────────────────────────────────────────────────────────────────
 

@@ -3,7 +3,10 @@
 use Rattle.std.specs.Prelude.{Bool, true, false, ◌&&◌, ◌||◌, List, [], ◌∷◌, map, ℕ, zero, suc, ◌+◌, ◌-◌, ◌*◌, get_or, set, take}
 use Rattle.definition.specs.Words.{when◌then◌else◌, ◌<?◌, ◌≤?◌, ◌=?◌}
 use Rattle.definition.specs.Pool.{Waiter, is_ready, is_closed}
-use Rattle.definition.specs.Records.{ConnectionCreated, ConnectionReady, ConnectionCheckedIn, ConnectionClosed, PoolReady, PoolCleared, PoolShut, Interrupt, Replied, Reply, Pooled, Establishing, Warmed, Cleared, Gone, told}
+use Rattle.definition.specs.Records.{told}
+use Rattle.definition.specs.declared.Record.TheVariants.{ConnectionCreated, ConnectionReady, ConnectionCheckedIn, ConnectionClosed, PoolReady, PoolCleared, PoolShut, Interrupt, Replied}
+use Rattle.definition.specs.declared.Reply.{Reply}
+use Rattle.definition.specs.declared.Reply.TheVariants.{Pooled, Establishing, Warmed, Cleared, Gone}
 use Rattle.definition.specs.Events.{bit}
 use Rattle.definition.specs.Steps.{Act, nothing, emit, emit_all, become, ◌>>◌, serviced}
 use Rattle.definition.specs.declared.Event.{Event}

@@ -4,7 +4,8 @@ use Rattle.std.proofs.Common.{subst, ltb-true}
 use Rattle.definition.specs.Booleans.{and_left, and_right}
 use Rattle.definition.specs.Words.{when◌then◌else◌, ◌<?◌}
 use Rattle.definition.specs.Pool.{is_ready, is_closed}
-use Rattle.definition.specs.Records.{ConnectionCheckedIn, ConnectionReady, PoolReady, Replied, Cleared}
+use Rattle.definition.specs.declared.Record.TheVariants.{ConnectionCheckedIn, ConnectionReady, PoolReady, Replied}
+use Rattle.definition.specs.declared.Reply.TheVariants.{Cleared}
 use Rattle.definition.specs.Steps.{emit, nothing, ◌>>◌}
 use Rattle.definition.specs.Events.{bit}
 use Rattle.definition.specs.declared.PoolState.TheVariants.{New, Paused, Ready, Closed}

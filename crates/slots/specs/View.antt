@@ -1,14 +1,13 @@
--- The pool that the lent parts make: what the slot-level steps speak of. Only this file and its laws, Parts, know the columns: a new
+-- The pool that a worker works on: what the slot-level steps speak of. Only this file and its laws, Parts, know the columns: a new
 -- field of a slot or of the pool is written here.
-use Rattle.std.specs.Prelude.{◌≡◌, Bool, ◌||◌, List, ℕ, ◌+◌, ◌*◌, ◌/◌, ◌%◌, length, get_or, set}
-use Rattle.std.specs.Borrow.{MutBor}
-use denote.Triple.Both.{Both}
+use Rattle.std.specs.Prelude.{◌≡◌, Bool, ◌||◌, List, ℕ, ◌/◌, ◌%◌, length, get_or, set}
 use Rattle.definition.specs.Words.{◌<?◌, ◌≤?◌, ◌=?◌}
 use Rattle.definition.specs.Pool.{queue_length, slot_count, Waiter, stale_in, idle_for, age_told}
 use Rattle.definition.specs.declared.Options.{Options}
 use Rattle.definition.specs.declared.PoolState.{PoolState}
-use Rattle.slots.specs.Columns.{column, zip}
+use Rattle.slots.specs.Columns.{zip}
 use Rattle.slots.specs.declared.Head.{Head}
+use Rattle.slots.specs.declared.ConnectionPoolWorker.{ConnectionPoolWorker}
 
 -- ── What a slot holds ──────────────────────────────────────────────────────────────────────────────────────────────────
 
@@ -30,31 +29,12 @@ with_state k t s = slot s.generation t k
 
 -- ── The columns ────────────────────────────────────────────────────────────────────────────────────────────────────────
 
--- `numbers` has the ids, then the generations; `times` is one column; `states` has the states, then the available slots, front to back
-abbrev pub numbers_length : ℕ
-numbers_length = 2 * slot_count
-
-abbrev pub states_length : ℕ
-states_length = 2 * slot_count
-
-abbrev pub ids_in : (numbers : List ℕ) → List ℕ
-ids_in numbers = column 0 numbers
-
-abbrev pub generations_in : (numbers : List ℕ) → List ℕ
-generations_in numbers = column 1 numbers
-
-abbrev pub states_in : (states : List ℕ) → List ℕ
-states_in states = column 0 states
-
-abbrev pub order_in : (states : List ℕ) → List ℕ
-order_in states = column 1 states
-
 -- what the columns hold of slot i, and of each
-abbrev pub slot_in : (numbers times states : List ℕ) → ℕ → Slot
-slot_in numbers times states i = slot (get_or numbers (slot_count + i) 0) (get_or times i 0) (get_or states i 0)
+abbrev pub slot_in : (generations times states : List ℕ) → ℕ → Slot
+slot_in generations times states i = slot (get_or generations i 0) (get_or times i 0) (get_or states i 0)
 
-unfoldable pub slots_of : (numbers times states : List ℕ) → List Slot
-slots_of numbers times states = zip (λ (f : ℕ → Slot) (s : ℕ). f s) (zip slot (generations_in numbers) times) (states_in states)
+unfoldable pub slots_of : (generations times states : List ℕ) → List Slot
+slots_of generations times states = zip (λ (f : ℕ → Slot) (s : ℕ). f s) (zip slot generations times) states
 
 -- ── The pool ───────────────────────────────────────────────────────────────────────────────────────────────────────────
 
@@ -95,11 +75,11 @@ slot_pool o s g n c r e t q a w ids slots available waiters = record {
 }
 
 -- the pool that the parts make; waiters: four times the id, and 1 if warm, 2 if abandoned
-abbrev pub pool_of : Head → (numbers times states waiters : List ℕ) → SlotPool
-pool_of h numbers times states waiters =
+abbrev pub pool_of : Head → (ids generations times states available waiters : List ℕ) → SlotPool
+pool_of h ids generations times states available waiters =
     slot_pool h.options h.status.state h.status.generation h.next_connection_id h.clock h.last_request h.serial
     h.total_connection_count h.pending_connection_count h.available_count h.waiting_count
-    (ids_in numbers) (slots_of numbers times states) (order_in states) waiters
+    ids (slots_of generations times states) available waiters
 
 -- the pool with other values in some places
 module _ (p : SlotPool) where
@@ -156,23 +136,13 @@ module _ (p : SlotPool) where
 abbrev pub waiter_of : ℕ → Waiter
 waiter_of w = record { id = w / 4; warm = w % 2 =? 1; abandoned = 2 ≤? w % 4 }
 
--- an array of numbers that is lent to a function
-abbrev pub Lent : Type 0
-Lent = Both (MutBor (List ℕ)) (MutBor (List ℕ))
+-- the pool that a worker works on
+abbrev pub pool_in : ConnectionPoolWorker → SlotPool
+pool_in w = pool_of w.head w.ids w.generations w.times w.states w.available w.waiters
 
--- the pool whose lent parts are these: in a `requires`; as a function is called; as it returns
-abbrev pub given : Head → MutBor (List ℕ) → MutBor (List ℕ) → MutBor (List ℕ) → MutBor (List ℕ) → SlotPool
-given h numbers times states waiters = pool_of h numbers.now times.now states.now waiters.now
-
-abbrev pub before : Head → Lent → Lent → Lent → Lent → SlotPool
-before h numbers times states waiters = pool_of h numbers.entry.now times.entry.now states.entry.now waiters.entry.now
-
-abbrev pub after : Head → Lent → Lent → Lent → Lent → SlotPool
-after h numbers times states waiters = pool_of h numbers.exit.now times.exit.now states.exit.now waiters.exit.now
-
--- from these columns to those, whatever the head and the queue: slot i gets an id and what it holds, and nothing else of the pool changes
-pub record Puts (i id : ℕ) (held : Slot) (numbers times states numbers' times' states' : List ℕ) : Type 0 where
-  pub pool : (h : Head) (waiters : List ℕ) → let p = pool_of h numbers times states waiters in pool_of h numbers' times' states' waiters ≡ with_table p (set p.ids i id) (set p.slots i held)
+-- from this worker to that: slot i gets an id and what it holds, and nothing else of the pool changes
+abbrev pub Puts : (i id : ℕ) (held : Slot) (w w' : ConnectionPoolWorker) → Type 0
+Puts i id held w w' = pool_in w' ≡ with_table (pool_in w) (set (pool_in w).ids i id) (set (pool_in w).slots i held)
 
 -- the columns have their lengths (what lies behind a reference is a list whose length nothing tells)
 pub record Whole (p : SlotPool) : Type 0 where

@@ -9,27 +9,6 @@ pub struct Status {
     pub generation: u32,
 }
 
-// ── The columns ──
-
-// Columns of one width stand in one array, SLOTS cells each: where they begin has a name, save that the first begins at 0.
-
-// The slots' ids, then their generations.
-pub const GENERATIONS: usize = SLOTS;
-
-pub const NUMBERS: usize = 2 * SLOTS;
-
-pub type Numbers = [u32; NUMBERS];
-
-// When each slot's connection became available, or was last named.
-pub type Times = [u64; SLOTS];
-
-// The slots' states, then the available slots, front to back.
-pub const ORDER: usize = SLOTS;
-
-pub const STATES: usize = 2 * SLOTS;
-
-pub type States = [u8; STATES];
-
 // Front to back: four times the request's id, and 1 if it warms the pool, 2 if it was abandoned.
 pub type Waiters = [u64; QUEUE];
 
@@ -44,20 +23,28 @@ pub struct Head {
     pub serial: u32,
     pub total_connection_count: u32,
     pub pending_connection_count: u32,
+    // Beside their arrays: what a host holds of a pool, and its structure rules speak of, has no heap.
     pub available_count: usize,
     pub waiting_count: usize,
 }
 
-// What the tests say of an event: a refusal, or the slot or the waiter that it names.
+// The pool as the engine works on it: its head, its slots in columns, and its queue. One array of slots was slower: the structure test
+// and the search for an id take several cells of a column at once (docs/DECISIONS.md, 13 and 14).
 #[derive(Clone, Copy)]
-pub enum Verdict {
-    Refuse(Refusal),
-    Accept(usize),
+pub struct ConnectionPoolWorker {
+    pub head: Head,
+    pub ids: [u32; SLOTS],
+    pub generations: [u32; SLOTS],
+    // When each slot's connection became available, or was last named.
+    pub times: [u64; SLOTS],
+    pub states: [u8; SLOTS],
+    // The available slots, front to back.
+    pub available: [u8; SLOTS],
+    pub waiters: Waiters,
 }
 
-// The answer to a call: a refusal, or how many records were written.
-#[derive(Clone, Copy)]
-pub enum Outcome {
-    Refused(Refusal),
-    Accepted(u32),
-}
+// What the tests say of an event: the slot or the waiter that it names, or a refusal.
+pub type Verdict = Result<usize, Refusal>;
+
+// The answer to a call: how many records were written, or a refusal.
+pub type Outcome = Result<u32, Refusal>;

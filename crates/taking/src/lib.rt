@@ -2,44 +2,29 @@
 #![tactic(auto)]
 
 ghost use Rattle.std.specs.Prelude.{◌+◌};
-ghost use Rattle.slots.specs.View.{given, before, after, waiter_of, Whole};
-ghost use Rattle.slots.specs.Done.{Room, Done};
+ghost use Rattle.records.specs.Output.{RoomFor};
+ghost use Rattle.slots.specs.View.{pool_in, waiter_of};
+ghost use Rattle.slots.specs.Done.{Does};
 ghost use Rattle.slots.specs.Needs.{CanTake};
 ghost use Rattle.slots.specs.Slots.{take_from};
 
-use acts::Progress;
-use slots::{Head, Numbers, States, Times, Waiters};
+use records::Records;
+use slots::ConnectionPoolWorker;
 
-// From the available back: those that have perished are closed, until one is lent; else one is created.
-pub fn take_available(
-    head: Head,
-    numbers: &mut Numbers,
-    times: &mut Times,
-    states: &mut States,
-    waiters: &mut Waiters,
-    out: &mut [u8],
-    n: u32,
-    waiter: u64,
-) -> Progress
-    requires { Whole (given head numbers times states waiters) × CanTake (given head numbers times states waiters) × Room (head.available_count + 2) n out.old }
-    ensures { Done (take_from head.available_count (waiter_of waiter) (before head numbers times states waiters)) head.serial n out.old (after result.head numbers times states waiters) result.count out.new }
+// From the available back: those that have perished are closed, until one is lent; else one is created. By the pool's own count, which
+// the calls of each turn move.
+pub fn take_available(worker: &mut ConnectionPoolWorker, records: &mut Records, waiter: u64)
+    requires { CanTake (pool_in worker.old) × RoomFor (worker.old.head.available_count + 2) records.old }
+    ensures { Does (take_from worker.old.head.available_count (waiter_of waiter)) worker records }
 {
-    let mut h = head;
-    let mut count = n;
-    let mut k = head.available_count;
-    while 0 < k {
-        k = k - 1;
-        let back = conditions::examine(h, numbers, times, states, k);
-        let i = back.slot;
-        let r = back.reason;
-        let age = back.age;
-        h = acts::pop_back(h, numbers, times, states, waiters);
-        if r == 0 {
-            return lending::lend(h, numbers, times, states, waiters, out, count, waiter, i);
-        }
-        let c = acts::close_connection(h, numbers, times, states, waiters, out, count, i, r, age);
-        h = c.head;
-        count = c.count;
+    while 0 < worker.head.available_count {
+        let back = conditions::examine(worker, worker.head.available_count - 1);
+        acts::pop_back(worker);
+        let Some((reason, age)) = back.perished else {
+            lending::lend(worker, records, waiter, back.slot);
+            return;
+        };
+        acts::close_connection(worker, records, back.slot, reason, age);
     }
-    lending::establish(h, numbers, times, states, waiters, out, count, waiter)
+    lending::establish(worker, records, waiter);
 }

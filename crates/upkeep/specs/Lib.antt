@@ -1,3 +1,2 @@
 pub mod Stood
-pub mod Laws
 pub mod Exits

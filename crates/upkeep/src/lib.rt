@@ -2,197 +2,84 @@
 #![tactic(auto)]
 
 ghost use Rattle.std.specs.Prelude.{◌≡◌, ◌+◌, ◌-◌, ◌≤◌, length};
-ghost use Rattle.definition.specs.Words.{when◌then◌else◌};
 ghost use Rattle.definition.specs.Refusals.{enough_room, last_next_id, last_generation};
-ghost use Rattle.slots.specs.View.{given, before, after, Whole};
-ghost use Rattle.slots.specs.Done.{Room, Done};
-ghost use Rattle.slots.specs.Slots.{maintenance, mark_as_ready, cleared_ready, clear, shut};
-ghost use Rattle.upkeep.specs.Stood.{Stood, Said, interrupting};
+ghost use Rattle.records.specs.Output.{RoomFor};
+ghost use Rattle.slots.specs.View.{pool_in};
+ghost use Rattle.slots.specs.Done.{Did, Does};
+ghost use Rattle.slots.specs.Slots.{maintenance, mark_as_ready, interrupted, cleared_ready, clear, shut};
+ghost use Rattle.upkeep.specs.Stood.{Stood};
 
-use acts::Progress;
-use definition::PoolState;
-use slots::{Head, Numbers, States, Status, Times, Waiters};
+use definition::{PoolState, Record, Reply};
+use records::Records;
+use slots::{ConnectionPoolWorker, Head};
 
-pub fn perform_maintenance(
-    head: Head,
-    numbers: &mut Numbers,
-    times: &mut Times,
-    states: &mut States,
-    waiters: &mut Waiters,
-    out: &mut [u8],
-) -> Progress
-    requires { Stood (given head numbers times states waiters) × (head.next_connection_id ≤ last_next_id) × (enough_room ≤ length out.old) }
-    ensures { Done (maintenance (before head numbers times states waiters)) head.serial 0 out.old (after result.head numbers times states waiters) result.count out.new }
+pub fn perform_maintenance(worker: &mut ConnectionPoolWorker, records: &mut Records)
+    requires { Stood (pool_in worker.old) × (worker.old.head.next_connection_id ≤ last_next_id) × (enough_room ≤ length records.old.out.now) × (records.old.count ≡ 0) }
+    ensures { Does maintenance worker records }
 {
-    let c = sweeps::remove_perished_connections(head, numbers, times, states, waiters, out, 0);
-    let h = c.head;
-    let k = c.count;
-    sweeps::ensure_min_connections(h, numbers, times, states, waiters, out, k)
+    sweeps::remove_perished_connections(worker, records);
+    sweeps::ensure_min_connections(worker, records);
 }
 
-pub fn mark_as_ready(
-    head: Head,
-    numbers: &mut Numbers,
-    times: &mut Times,
-    states: &mut States,
-    waiters: &mut Waiters,
-    out: &mut [u8],
-    n: u32,
-) -> Progress
-    requires { Whole (given head numbers times states waiters) × Room 1 n out.old }
-    ensures { Done (mark_as_ready (before head numbers times states waiters)) head.serial n out.old (after result.head numbers times states waiters) result.count out.new }
+pub fn mark_as_ready(worker: &mut ConnectionPoolWorker, records: &mut Records)
+    requires { RoomFor 1 records.old }
+    ensures { Does mark_as_ready worker records }
 {
-    let m = head.status;
-    let st = m.state;
-    if conditions::is_ready(st) {
-        return Progress {
-            head: head,
-            count: n,
-        };
+    if conditions::is_ready(worker.head.status.state) {
+        return;
     }
-    records::emit(out, n, head.serial, 5, 0, 0, 0);
-    let mut h = head;
-    let ready = Status {
-        state: PoolState::Ready,
-        generation: m.generation,
-    };
-    h.status = ready;
-    Progress {
-        head: h,
-        count: n + 1,
-    }
+    records.emit(Record::PoolReady);
+    worker.head.status.state = PoolState::Ready;
 }
 
 // How many are lent: neither available nor pending.
-fn lent(total: u32, available: usize, pending: u32) -> u32
-    requires { available + pending ≤ total }
-    ensures { result ≡ total - available - pending }
+fn lent(head: &Head) -> u32
+    requires { head.now.available_count + head.now.pending_connection_count ≤ head.now.total_connection_count }
+    ensures { result ≡ head.now.total_connection_count - head.now.available_count - head.now.pending_connection_count }
 {
-    total - available as u32 - pending
+    head.total_connection_count - head.available_count as u32 - head.pending_connection_count
 }
 
-// Record 8, on timeout.
-fn interrupt(head: Head, out: &mut [u8], timeout: bool) -> u32
-    requires { (head.available_count + head.pending_connection_count ≤ head.total_connection_count) × (16 ≤ length out.old) }
-    ensures { Said (interrupting timeout (head.total_connection_count - head.available_count - head.pending_connection_count)) head.serial 0 out.old result out.new }
+// Who holds a connection is warned, on timeout.
+fn interrupt(worker: &ConnectionPoolWorker, records: &mut Records, timeout: bool)
+    requires { Stood (pool_in worker.now) × RoomFor 1 records.old }
+    ensures { Did (interrupted timeout (pool_in worker.now)) worker.now records.old records.new }
 {
     if timeout {
-        let others = lent(
-            head.total_connection_count,
-            head.available_count,
-            head.pending_connection_count,
-        );
-        records::emit(out, 0, head.serial, 8, 0, 0, others);
-        return 1;
+        records.emit(Record::Interrupt(lent(&worker.head)));
     }
-    0
 }
 
-fn flag(b: bool) -> u8
-    ensures { result ≡ (when b then 1 else 0) }
+// That it is cleared is told, and the waiters are, of a Ready pool.
+fn clear_ready(worker: &mut ConnectionPoolWorker, records: &mut Records, timeout: bool, cause: u32)
+    requires { Stood (pool_in worker.old) × (worker.old.head.status.generation ≡ last_generation → ⊥) × RoomFor (worker.old.head.waiting_count + 1) records.old }
+    ensures { Does (cleared_ready timeout cause) worker records }
 {
-    if b { 1 } else { 0 }
-}
-
-fn next_generation(g: u32) -> u32
-    requires { g ≡ last_generation → ⊥ }
-    ensures { result ≡ g + 1 }
-{
-    g + 1
-}
-
-// Record 6 and the waiters, of a Ready pool.
-fn clear_ready(
-    head: Head,
-    numbers: &mut Numbers,
-    times: &mut Times,
-    states: &mut States,
-    waiters: &mut Waiters,
-    out: &mut [u8],
-    n: u32,
-    timeout: bool,
-    cause: u32,
-) -> Progress
-    requires { Stood (given head numbers times states waiters) × (head.status.generation ≡ last_generation → ⊥) × Room (head.waiting_count + 1) n out.old }
-    ensures { Done (cleared_ready timeout cause (before head numbers times states waiters)) head.serial n out.old (after result.head numbers times states waiters) result.count out.new }
-{
-    let m = head.status;
-    let st = m.state;
-    if conditions::is_ready(st) {
-        records::emit(
-            out,
-            n,
-            head.serial,
-            6,
-            flag(timeout),
-            words::as_u64(cause),
-            next_generation(m.generation),
-        );
-        return sweeps::tell_all(head, numbers, times, states, waiters, out, n + 1, 19, cause);
-    }
-    Progress {
-        head: head,
-        count: n,
+    let status = worker.head.status;
+    if conditions::is_ready(status.state) {
+        records.emit(Record::PoolCleared(timeout, cause, status.generation + 1));
+        sweeps::tell_all(worker, records, Reply::Cleared(cause));
     }
 }
 
 // Who holds a connection is warned before all else. Whether the pool was Ready is asked before it is paused.
-pub fn clear(
-    head: Head,
-    numbers: &mut Numbers,
-    times: &mut Times,
-    states: &mut States,
-    waiters: &mut Waiters,
-    out: &mut [u8],
-    timeout: bool,
-    cause: u32,
-) -> Progress
-    requires { Stood (given head numbers times states waiters) × (head.status.generation ≡ last_generation → ⊥) × (enough_room ≤ length out.old) }
-    ensures { Done (clear timeout cause (before head numbers times states waiters)) head.serial 0 out.old (after result.head numbers times states waiters) result.count out.new }
+pub fn clear(worker: &mut ConnectionPoolWorker, records: &mut Records, timeout: bool, cause: u32)
+    requires { Stood (pool_in worker.old) × (worker.old.head.status.generation ≡ last_generation → ⊥) × (enough_room ≤ length records.old.out.now) × (records.old.count ≡ 0) }
+    ensures { Does (clear timeout cause) worker records }
 {
-    let m = head.status;
-    let k = interrupt(head, out, timeout);
-    let c = clear_ready(
-        head, numbers, times, states, waiters, out, k, timeout, cause,
-    );
-    let mut h = c.head;
-    let paused = Status {
-        state: PoolState::Paused(cause),
-        generation: next_generation(m.generation),
-    };
-    h.status = paused;
-    Progress {
-        head: h,
-        count: c.count,
-    }
+    interrupt(worker, records, timeout);
+    clear_ready(worker, records, timeout, cause);
+    worker.head.status.state = PoolState::Paused(cause);
+    worker.head.status.generation += 1;
 }
 
-// The available ones front to back, the waiters front to back, then record 7.
-pub fn shut(
-    head: Head,
-    numbers: &mut Numbers,
-    times: &mut Times,
-    states: &mut States,
-    waiters: &mut Waiters,
-    out: &mut [u8],
-) -> Progress
-    requires { Stood (given head numbers times states waiters) × (enough_room ≤ length out.old) }
-    ensures { Done (shut (before head numbers times states waiters)) head.serial 0 out.old (after result.head numbers times states waiters) result.count out.new }
+// The available ones front to back, the waiters front to back, then that it is closed.
+pub fn shut(worker: &mut ConnectionPoolWorker, records: &mut Records)
+    requires { Stood (pool_in worker.old) × (enough_room ≤ length records.old.out.now) × (records.old.count ≡ 0) }
+    ensures { Does shut worker records }
 {
-    let m = head.status;
-    let c = sweeps::close_available(head, numbers, times, states, waiters, out, 0);
-    let h = c.head;
-    let d = sweeps::tell_all(h, numbers, times, states, waiters, out, c.count, 20, 0);
-    let mut g = d.head;
-    let k = d.count;
-    records::emit(out, k, g.serial, 7, 0, 0, 0);
-    let closed = Status {
-        state: PoolState::Closed,
-        generation: m.generation,
-    };
-    g.status = closed;
-    Progress {
-        head: g,
-        count: k + 1,
-    }
+    sweeps::close_available(worker, records);
+    sweeps::tell_all(worker, records, Reply::Gone);
+    records.emit(Record::PoolShut);
+    worker.head.status.state = PoolState::Closed;
 }

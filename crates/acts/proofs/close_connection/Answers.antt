@@ -1,8 +1,6 @@
 use Rattle.std.specs.Prelude.{refl}
-use Rattle.slots.specs.ActExits.{closed_done}
+use Rattle.slots.specs.ActExits.{closed_did}
 use Rattle.acts.proofs.close_connection.Goals as goal
 
 pub returns : goal.returns
-returns c =
-    closed_done c.args.head c.args.numbers.now c.args.times.now c.args.states.now c.args.waiters.now c.args.i c.args.reason c.args.other _ c.requires.1.slot c.requires.3 c.requires.4
-    c.as_u64.ensures c.emit.ensures c.put_slot.ensures _ refl
+returns c = closed_did c.args.worker.now c.put_slot.new.worker _ c.args.i c.args.other c.args.reason c.emit.ensures c.put_slot.ensures refl

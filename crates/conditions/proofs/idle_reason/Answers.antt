@@ -1,13 +1,11 @@
-use Rattle.std.proofs.Math.Path.{◌≡◌}
-use Rattle.std.specs.Prelude.{refl, Bool, true, false}
-use mir.Val.{bool_byte}
-use Rattle.definition.specs.Words.{when◌then◌else◌, ◌<?◌}
+use Rattle.std.proofs.Common.{lt-ltb, le-ltb}
+use Rattle.definition.specs.Words.{when◌then◌else◌}
 use Rattle.conditions.proofs.idle_reason.Goals as goal
 
-as_byte : (b : Bool) → bool_byte b ≡ (when b then 1 else 0)
+pub returns-then-age-gt0 : goal.returns-then-age-gt0
 unfolding when◌then◌else◌
-as_byte true = refl
-as_byte false = refl
+returns-then-age-gt0 c = rw (lt-ltb 0 c.args.age c.if-age-gt0.true, c.capped.ensures)
 
 pub returns : goal.returns
-returns c = as_byte (0 <? c.args.age)
+unfolding when◌then◌else◌
+returns c = rw (le-ltb 0 c.args.age c.if-age-gt0.false)

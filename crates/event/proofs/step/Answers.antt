@@ -1,21 +1,25 @@
-use Rattle.std.proofs.Common.{sym, ◌∙◌}
-use Rattle.slots.specs.View.{pool_of}
+use Rattle.std.specs.Prelude.{refl}
+use Rattle.std.proofs.Common.{sym}
+use Rattle.std.proofs.lemmas.Result.{err_from_is_err_and}
+use Rattle.slots.specs.View.{pool_in}
 use Rattle.refinement.proofs.Tests.{verdict_passed}
 use Rattle.event.specs.Laws.{step_refused, step_done}
 use Rattle.event.proofs.step.Goals as goal
 
-pub event-c-requires : goal.event-c-requires
-event-c-requires c =
+pub event-requires : goal.event-requires
+event-requires c =
     let r = c.requires in
-    let v = verdict_passed r.0.stands c.args.e c.args.time _ (sym c.verdict.ensures ∙ c.in-Accept.is) in
-    (r.0, v.0, v.1, r.1)
+    let v = verdict_passed r.0.stands c.args.e c.args.time _ (sym c.in_ok-i.ensures) in
+    (r.0, v.0, v.1, r.1, refl)
 
-pub returns-in-Refuse : goal.returns-in-Refuse
-returns-in-Refuse c =
-    sym (step_refused (pool_of c.args.head c.args.numbers.now c.args.times.now c.args.states.now c.args.waiters.now) c.args.out.now c.args.e c.args.time _ (sym c.verdict.ensures ∙ c.in-Refuse.is))
+pub returns-in_err-i : goal.returns-in_err-i
+returns-in_err-i c =
+    let p = err_from_is_err_and c.from_residual.result c.from_residual.ensures.1 in
+    rw (p.1, p.2) (sym (step_refused (pool_in c.args.worker.now) c.args.out.now c.args.e c.args.time _ (sym c.in_err-i.ensures)))
 
-pub returns-in-Accept : goal.returns-in-Accept
-returns-in-Accept c =
-    step_done (pool_of c.args.head c.args.numbers.now c.args.times.now c.args.states.now c.args.waiters.now) c.args.out.now c.args.e c.args.time _
-    (pool_of c.event-c.result.head c.event-c.new.numbers c.event-c.new.times c.event-c.new.states c.event-c.new.waiters)
-    (sym c.verdict.ensures ∙ c.in-Accept.is) c.event-c.ensures c.wrapping_add_u32.ensures.value
+-- the output is what the records hold, which are still those that were lent
+pub returns : goal.returns
+returns c =
+    rw (c.out-1.given.1.1 (sym c.event.ensures.kept.same))
+    (step_done (pool_in c.args.worker.now) c.args.out.now c.args.e c.args.time _ (pool_in c.event.new.worker)
+    (sym c.in_ok-i.ensures) c.event.ensures.done c.wrapping_add_u32-worker.ensures.value)

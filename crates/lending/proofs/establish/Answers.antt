@@ -1,7 +1,9 @@
-use Rattle.slots.specs.View.{pool_of, waiter_of}
-use Rattle.lending.specs.Lending.{established}
+use Rattle.slots.specs.View.{pool_in, waiter_of}
+use Rattle.lending.specs.Lending.{created_tells, established}
 use Rattle.lending.proofs.establish.Goals as goal
 
+pub tell-requires : goal.tell-requires
+tell-requires c = created_tells 5 (pool_in c.args.worker.now) c.create_pending_connection.ensures c.requires.1
+
 pub returns : goal.returns
-returns c =
-    established (waiter_of c.args.waiter) ((pool_of c.args.head c.args.numbers.now c.args.times.now c.args.states.now c.args.waiters.now)) ((pool_of c.create_pending_connection-c.result.head c.create_pending_connection-c.new.numbers c.create_pending_connection-c.new.times c.create_pending_connection-c.new.states c.create_pending_connection-c.new.waiters)) c.create_pending_connection-c.ensures c.reply.ensures
+returns c = established (waiter_of c.args.waiter) (pool_in c.args.worker.now) c.create_pending_connection.ensures c.tell.ensures

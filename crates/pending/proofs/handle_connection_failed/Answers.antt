@@ -1,10 +1,9 @@
-use Rattle.definition.specs.Words.{when◌then◌else◌}
-use Rattle.slots.specs.View.{pool_of}
-use Rattle.slots.specs.Slots.{leave_pending}
-use Rattle.pending.specs.Exits.{failed_closed}
+use Rattle.slots.specs.View.{pool_in}
+use Rattle.pending.specs.Exits.{left_closes, failed_closed}
 use Rattle.pending.proofs.handle_connection_failed.Goals as goal
 
+pub close_connection-requires : goal.close_connection-requires
+close_connection-requires c = (left_closes (pool_in c.args.worker.now) _ c.leave_pending.ensures c.args.i c.requires.0, c.requires.1)
+
 pub returns : goal.returns
-unfolding leave_pending when◌then◌else◌
-returns c =
-    failed_closed ((pool_of c.args.head c.args.numbers.now c.args.times.now c.args.states.now c.args.waiters.now)) c.args.i {q = (pool_of c.close_connection.result.head c.close_connection.new.numbers c.close_connection.new.times c.close_connection.new.states c.close_connection.new.waiters)} c.close_connection.ensures
+returns c = failed_closed c.args.worker.now c.leave_pending.new.worker c.leave_pending.ensures c.args.i c.close_connection.ensures

@@ -1,30 +1,26 @@
 use Rattle.std.proofs.Common.{arith, rules}
-use Rattle.slots.specs.View.{pool_of}
+use Rattle.slots.specs.View.{pool_in}
+use Rattle.slots.specs.Parts.{worker_whole}
 use Rattle.sweeps.specs.Filling.{fill_never, fill_start, fill_creates, fill_turns, created_total, filled_enough, filled_busy}
 use Rattle.sweeps.proofs.ensure_min_connections.Goals as goal
 
 pub returns-then-not-is_ready : goal.returns-then-not-is_ready
-returns-then-not-is_ready c =
-    fill_never ((pool_of c.args.head c.args.numbers.now c.args.times.now c.args.states.now c.args.waiters.now)) c.is_ready.ensures c.if-not-is_ready.true
+returns-then-not-is_ready c = fill_never c.args.worker.now c.is_ready.ensures c.if-not-is_ready.true
 
-pub loop-h-init : goal.loop-h-init
-loop-h-init c =
-    fill_start ((pool_of c.args.head c.args.numbers.now c.args.times.now c.args.states.now c.args.waiters.now)) c.is_ready.ensures c.if-not-is_ready.false c.requires
+pub loop-worker-init : goal.loop-worker-init
+loop-worker-init c = fill_start c.args.worker.now c.is_ready.ensures c.if-not-is_ready.false (worker_whole c.args.worker.now (search rules)) c.requires
 
-pub returns-then-o-h : goal.returns-then-o-h
-returns-then-o-h c = filled_busy c.loop-h.invariant c.if-o-h.true
+pub returns-then-options-worker : goal.returns-then-options-worker
+returns-then-options-worker c = filled_busy c.loop-worker.worker c.loop-worker.invariant c.if-options-worker.true
 
-pub create_pending_connection-c-requires : goal.create_pending_connection-c-requires
-create_pending_connection-c-requires c =
-    fill_creates c.loop-h.invariant c.loop-h-test.true
+pub create_pending_connection-requires : goal.create_pending_connection-requires
+create_pending_connection-requires c = fill_creates c.loop-worker.worker c.loop-worker.invariant c.loop-worker-test.true
 
-pub loop-h-smaller : goal.loop-h-smaller
-loop-h-smaller c =
-    omega (arith, c.loop-h-test.true, created_total ((pool_of c.loop-h.h c.loop-h.numbers c.loop-h.times c.loop-h.states c.loop-h.waiters)) ((pool_of c.create_pending_connection-c.result.head c.create_pending_connection-c.new.numbers c.create_pending_connection-c.new.times c.create_pending_connection-c.new.states c.create_pending_connection-c.new.waiters)) c.create_pending_connection-c.ensures)
+pub loop-worker-smaller : goal.loop-worker-smaller
+loop-worker-smaller c = omega (arith, c.loop-worker-test.true, created_total (pool_in c.loop-worker.worker) c.create_pending_connection.ensures)
 
-pub loop-h-preserved : goal.loop-h-preserved
-loop-h-preserved c =
-    fill_turns c.loop-h.invariant c.loop-h-test.true c.if-o-h.false ((pool_of c.create_pending_connection-c.result.head c.create_pending_connection-c.new.numbers c.create_pending_connection-c.new.times c.create_pending_connection-c.new.states c.create_pending_connection-c.new.waiters)) c.create_pending_connection-c.ensures (search rules)
+pub loop-worker-preserved : goal.loop-worker-preserved
+loop-worker-preserved c = fill_turns c.loop-worker.worker c.loop-worker.invariant c.loop-worker-test.true c.if-options-worker.false c.create_pending_connection.ensures
 
 pub returns : goal.returns
-returns c = filled_enough c.loop-h.invariant c.loop-h-test.false
+returns c = filled_enough c.loop-worker.worker c.loop-worker.invariant c.loop-worker-test.false

@@ -1,15 +1,16 @@
+use Rattle.std.specs.Prelude.{refl}
 use Rattle.std.proofs.Common.{arith, rules}
-use Rattle.slots.specs.View.{pool_of}
+use Rattle.slots.specs.Parts.{worker_whole}
 use Rattle.sweeps.specs.Telling.{tell_start, tell_turns, told_all}
 use Rattle.sweeps.proofs.tell_all.Goals as goal
 
 pub loop-k-init : goal.loop-k-init
-loop-k-init c = tell_start _ _ _ ((pool_of c.args.head c.args.numbers.now c.args.times.now c.args.states.now c.args.waiters.now)) _ c.requires.3
+loop-k-init c = tell_start c.args.reply c.args.worker.now c.requires.1
 
 pub loop-k-preserved : goal.loop-k-preserved
 loop-k-preserved c =
-    tell_turns _ ((pool_of c.args.head c.args.numbers.now c.args.times.now c.args.states.now c.args.waiters.now)) c.loop-k.invariant c.reply.new.out c.loop-k-test.true (omega arith)
-    c.reply.ensures (search rules)
+    let whole = worker_whole c.args.worker.now (search rules) in
+    tell_turns c.args.reply c.loop-k.invariant c.loop-k-test.true (omega (arith, c.requires.0.fits, whole.waiters)) c.tell.ensures
 
 pub returns : goal.returns
-returns c = told_all _ ((pool_of c.args.head c.args.numbers.now c.args.times.now c.args.states.now c.args.waiters.now)) c.loop-k.invariant c.loop-k-test.false
+returns c = told_all c.args.reply c.loop-k.invariant c.loop-k-test.false _ refl

@@ -1,17 +1,19 @@
-use Rattle.std.proofs.Common.{sym, arith}
-use Rattle.std.proofs.Math.Path.{◌∙◌}
-use Rattle.slots.specs.Finding.{holding_in}
-use Rattle.table.proofs.Laws.{searching_start, searching_step, searching_hit, searching_end}
+use Rattle.std.specs.Prelude.{◌≡◌, take}
+use Rattle.std.specs.List.{position}
+use Rattle.std.specs.Option.{unwrap_or}
+use Rattle.std.proofs.Common.{sym, ap, ◌∙◌, arith, rules, tests}
+use Rattle.std.proofs.lemmas.Iterator.{YieldsList-from_slice}
+use Rattle.std.proofs.lemmas.Iterator.Search.{position_from_yields_List}
+use Rattle.definition.specs.Pool.{slot_count}
+use Rattle.definition.specs.Words.{◌=?◌}
+use Rattle.slots.specs.Order.{slot_holding}
+use Rattle.table.proofs.Laws.{found_all}
 use Rattle.table.proofs.find.Goals as goal
 
-pub loop-i-init : goal.loop-i-init
-loop-i-init c = searching_start _ _ _ _
-
-pub returns-then-numbers-i : goal.returns-then-numbers-i
-returns-then-numbers-i c = searching_hit c.loop-i.invariant (omega arith) c.if-numbers-i.true ∙ sym (holding_in _ _)
-
-pub loop-i-preserved : goal.loop-i-preserved
-loop-i-preserved c = searching_step c.loop-i.invariant (omega arith) c.if-numbers-i.false
-
 pub returns : goal.returns
-returns c = searching_end c.loop-i.invariant (omega arith) ∙ sym (holding_in _ _)
+unfolding slot_holding
+returns c =
+    let xs = c.args.ids.now in
+    let e : c.position.result ≡ position (λ v. v =? c.args.id) xs =
+    position_from_yields_List (λ v. v =? c.args.id) _ _ _ c.position.ensures.ran (YieldsList-from_slice xs c.iter.ensures.rest) (λ x b q k. search (rules, tests)) in
+    c.unwrap_or.ensures ∙ ap (λ o. unwrap_or o slot_count) e ∙ found_all (λ v. v) c.args.id slot_count xs (search rules)

@@ -1,48 +1,40 @@
-use Rattle.std.proofs.Common.{arith, rules}
-use Rattle.slots.specs.View.{pool_of, waiter_of}
-use Rattle.taking.specs.Taking.{take_start, take_looks, take_pops, take_lends, taken_lent, take_closes, take_turns, take_creates, taken_none}
+use Rattle.std.proofs.Common.{arith, rules, sym, ◌∙◌}
+use Rattle.slots.specs.View.{pool_in, waiter_of}
+use Rattle.slots.specs.Parts.{worker_whole}
+use Rattle.taking.specs.Taking.{take_start, take_at, take_looks, take_pops, take_lends, taken_lent, take_closes, take_turns, take_creates, taken_none}
 use Rattle.taking.proofs.take_available.Goals as goal
 
-pub loop-k-init : goal.loop-k-init
-loop-k-init c = take_start (waiter_of c.args.waiter) ((pool_of c.args.head c.args.numbers.now c.args.times.now c.args.states.now c.args.waiters.now)) c.requires
-
-pub overflow_sub-k : goal.overflow_sub-k
-overflow_sub-k c = omega arith
+pub loop-worker-init : goal.loop-worker-init
+loop-worker-init c = take_start (waiter_of c.args.waiter) (pool_in c.args.worker.now) (worker_whole c.args.worker.now (search rules)) c.requires
 
 pub examine-back-requires : goal.examine-back-requires
-examine-back-requires c = take_looks c.loop-k.invariant _ (omega (arith, c.loop-k-test.true))
+examine-back-requires c = take_looks c.loop-worker.invariant _ (omega (arith, c.loop-worker-test.true))
 
-pub pop_back-h-requires : goal.pop_back-h-requires
-pop_back-h-requires c = take_pops c.loop-k.invariant c.loop-k-test.true
+pub pop_back-requires : goal.pop_back-requires
+pop_back-requires c = take_pops c.loop-worker.invariant c.loop-worker-test.true
 
 pub lend-requires : goal.lend-requires
-lend-requires c =
-    take_lends c.loop-k.invariant c.loop-k-test.true c.examine-back.ensures.slot c.examine-back.ensures.reason {q₁ = (pool_of c.pop_back-h.result c.pop_back-h.new.numbers c.pop_back-h.new.times c.pop_back-h.new.states c.pop_back-h.new.waiters)} c.pop_back-h.ensures
+lend-requires c = take_lends c.loop-worker.invariant c.loop-worker-test.true c.examine-back.ensures.slot c.pop_back.new.worker c.pop_back.ensures
 
-pub shape_of-out-then-r-eq0 : goal.shape_of-out-then-r-eq0
-shape_of-out-then-r-eq0 c = omega (arith, c.loop-k.invariant.sweep.same)
+pub returns-in_default : goal.returns-in_default
+returns-in_default c =
+    taken_lent c.loop-worker.invariant c.loop-worker-test.true c.examine-back.ensures.slot c.pop_back.new.worker c.pop_back.ensures (sym c.in_default.is ∙ c.examine-back.ensures.why) c.lend.ensures
 
-pub returns-then-r-eq0 : goal.returns-then-r-eq0
-returns-then-r-eq0 c =
-    taken_lent c.loop-k.invariant c.loop-k-test.true c.examine-back.ensures.slot c.examine-back.ensures.reason {q₁ = (pool_of c.pop_back-h.result c.pop_back-h.new.numbers c.pop_back-h.new.times c.pop_back-h.new.states c.pop_back-h.new.waiters)} c.pop_back-h.ensures
-    c.if-r-eq0.true {q' = (pool_of c.lend.result.head c.lend.new.numbers c.lend.new.times c.lend.new.states c.lend.new.waiters)} c.lend.ensures
+pub close_connection-requires : goal.close_connection-requires
+close_connection-requires c =
+    take_closes c.loop-worker.invariant c.loop-worker-test.true c.examine-back.ensures.slot c.pop_back.new.worker c.pop_back.ensures (sym c.in-Some.is ∙ c.examine-back.ensures.why)
 
-pub close_connection-c-requires : goal.close_connection-c-requires
-close_connection-c-requires c =
-    take_closes c.loop-k.invariant c.loop-k-test.true c.examine-back.ensures.slot c.examine-back.ensures.reason {q₁ = (pool_of c.pop_back-h.result c.pop_back-h.new.numbers c.pop_back-h.new.times c.pop_back-h.new.states c.pop_back-h.new.waiters)} c.pop_back-h.ensures
-    c.if-r-eq0.false
+pub loop-worker-smaller : goal.loop-worker-smaller
+loop-worker-smaller c =
+    let turned = take_turns c.loop-worker.invariant c.loop-worker-test.true c.examine-back.ensures.slot c.pop_back.new.worker c.pop_back.ensures (sym c.in-Some.is ∙ c.examine-back.ensures.why) c.close_connection.ensures in
+    omega (arith, c.loop-worker-test.true, turned.sweep.count)
 
-pub loop-k-smaller : goal.loop-k-smaller
-loop-k-smaller c = omega (arith, c.loop-k-test.true)
-
-pub loop-k-preserved : goal.loop-k-preserved
-loop-k-preserved c =
-    take_turns c.loop-k.invariant c.loop-k-test.true c.examine-back.ensures.slot c.examine-back.ensures.reason {q₁ = (pool_of c.pop_back-h.result c.pop_back-h.new.numbers c.pop_back-h.new.times c.pop_back-h.new.states c.pop_back-h.new.waiters)} c.pop_back-h.ensures
-    c.if-r-eq0.false c.examine-back.ensures.told ((pool_of c.close_connection-c.result.head c.close_connection-c.new.numbers c.close_connection-c.new.times c.close_connection-c.new.states c.close_connection-c.new.waiters)) c.close_connection-c.ensures (search rules)
+pub loop-worker-preserved : goal.loop-worker-preserved
+loop-worker-preserved c =
+    take_at (take_turns c.loop-worker.invariant c.loop-worker-test.true c.examine-back.ensures.slot c.pop_back.new.worker c.pop_back.ensures (sym c.in-Some.is ∙ c.examine-back.ensures.why) c.close_connection.ensures)
 
 pub establish-requires : goal.establish-requires
-establish-requires c = take_creates c.loop-k.invariant (omega arith)
+establish-requires c = take_creates c.loop-worker.invariant (omega (arith, c.loop-worker-test.false))
 
 pub returns : goal.returns
-returns c =
-    taken_none c.loop-k.invariant (omega arith) {q' = (pool_of c.establish.result.head c.establish.new.numbers c.establish.new.times c.establish.new.states c.establish.new.waiters)} c.establish.ensures
+returns c = taken_none c.loop-worker.invariant (omega (arith, c.loop-worker-test.false)) c.establish.ensures

@@ -1,22 +1,33 @@
-use Rattle.std.proofs.Common.{arith}
-use Rattle.slots.specs.View.{pool_of}
-use Rattle.slots.specs.Slots.{lents}
-use Rattle.refinement.proofs.Needs.{counts}
-use Rattle.upkeep.specs.Exits.{interrupt_few, all_cleared}
+use Rattle.std.specs.Prelude.{refl, ◌+◌}
+use Rattle.std.proofs.Common.{arith, rules, ap, ◌∙◌}
+use Rattle.definition.specs.Steps.{◌>>◌}
+use Rattle.definition.specs.declared.PoolState.TheVariants.{Paused}
+use Rattle.slots.specs.DoneLaws.{did_then, did_quiet}
+use Rattle.slots.specs.Slots.{interrupted, cleared_ready, enter, clear}
+use Rattle.slots.specs.View.{SlotPool, pool_in}
+use Rattle.refinement.specs.Sites.{cleared_generation}
+use Rattle.upkeep.specs.Exits.{interrupt_few}
 use Rattle.upkeep.proofs.clear.Goals as goal
 
-pub interrupt-k-requires : goal.interrupt-k-requires
-interrupt-k-requires c =
-    ((counts c.requires.0.stands).0, omega (arith, c.requires.2))
-
-pub clear_ready-c-requires : goal.clear_ready-c-requires
-clear_ready-c-requires c =
+pub clear_ready-requires : goal.clear_ready-requires
+clear_ready-requires c =
     let r = c.requires in
-    let few = interrupt_few c.args.timeout (lents ((pool_of c.args.head c.args.numbers.now c.args.times.now c.args.states.now c.args.waiters.now))) c.interrupt-k.ensures in
-    let w = r.0.stands.alike.queue.fits in
-    (r.0, r.1, (omega (arith, few, w, r.2), omega (arith, few, w)))
+    let few = interrupt_few c.args.timeout (pool_in c.args.worker.now) in
+    let fits = r.0.stands.alike.queue.fits in
+    (r.0, r.1, (omega (arith, few, fits, c.interrupt.ensures), omega (arith, few, fits, c.interrupt.ensures)))
+
+pub overflow_add-worker : goal.overflow_add-worker
+overflow_add-worker c =
+    let a = c.args in
+    let same = ap (λ (x : SlotPool). x.generation) c.clear_ready.ensures.done.pool ∙ cleared_generation a.timeout a.cause (pool_in a.worker.now) in
+    rw same (search rules)
 
 pub returns : goal.returns
+unfolding clear enter
 returns c =
     let a = c.args in
-    all_cleared a.timeout a.cause ((pool_of c.args.head c.args.numbers.now c.args.times.now c.args.states.now c.args.waiters.now)) c.interrupt-k.ensures ((pool_of c.clear_ready-c.result.head c.clear_ready-c.new.numbers c.clear_ready-c.new.times c.clear_ready-c.new.states c.clear_ready-c.new.waiters)) c.clear_ready-c.ensures c.next_generation.ensures
+    let p = pool_in a.worker.now in
+    let pause = enter (Paused a.cause) (p.generation + 1) in
+    let same = ap (λ (x : SlotPool). x.generation) c.clear_ready.ensures.done.pool ∙ cleared_generation a.timeout a.cause p in
+    did_then (interrupted a.timeout) (cleared_ready a.timeout a.cause >> pause) p {v = a.worker.now} c.interrupt.ensures
+    (did_then (cleared_ready a.timeout a.cause) pause p c.clear_ready.ensures (did_quiet _ refl (rw same)))

@@ -1,27 +1,41 @@
 use Rattle.std.specs.Prelude.{refl}
-use Rattle.std.proofs.Common.{arith}
-use Rattle.slots.specs.View.{pool_of}
-use Rattle.refinement.proofs.Needs.{whole, can_prune}
-use Rattle.upkeep.specs.Exits.{closed_tells, told_room, all_shut}
+use Rattle.std.proofs.Common.{arith, ap, ◌∙◌}
+use Rattle.definition.specs.Steps.{emit, ◌>>◌}
+use Rattle.definition.specs.declared.PoolState.TheVariants.{Closed}
+use Rattle.definition.specs.declared.Record.TheVariants.{PoolShut}
+use Rattle.definition.specs.declared.Reply.TheVariants.{Gone}
+use Rattle.slots.specs.DoneLaws.{did_then, did_emit, did_quiet}
+use Rattle.slots.specs.Slots.{close_front, tell_all, enter, shut}
+use Rattle.slots.specs.View.{SlotPool, pool_in}
+use Rattle.refinement.proofs.Needs.{can_prune}
+use Rattle.refinement.specs.Sites.{close_front_generation, told_generation}
+use Rattle.upkeep.specs.Exits.{closed_tells, told_room}
 use Rattle.upkeep.proofs.shut.Goals as goal
 
-pub close_available-c-requires : goal.close_available-c-requires
-close_available-c-requires c =
-    (whole c.requires.0.stands, can_prune c.requires.0.stands, (omega (arith, c.requires.1, c.requires.0.stands.table.fits), omega (arith, c.requires.0.stands.table.fits)))
+pub close_available-requires : goal.close_available-requires
+close_available-requires c =
+    let st = c.requires.0.stands in
+    (can_prune st, (omega (arith, st.table.fits), omega (arith, st.table.fits)))
 
-pub tell_all-d-requires : goal.tell_all-d-requires
-tell_all-d-requires c =
+pub tell_all-requires : goal.tell_all-requires
+tell_all-requires c =
     let r = c.requires in
-    let z = closed_tells r.0.stands ((pool_of c.close_available-c.result.head c.close_available-c.new.numbers c.close_available-c.new.times c.close_available-c.new.states c.close_available-c.new.waiters)) c.close_available-c.ensures in
-    (z.0, z.1, record { kinds = (omega arith, omega arith); zero = (λ _. refl, λ _. refl) }, (omega (arith, z.2, r.1), omega (arith, z.2)))
+    let z = closed_tells r.0.stands r.2 r.1 c.close_available.ensures in
+    (z.0, (omega (arith, z), omega (arith, z)))
 
 pub emit-requires : goal.emit-requires
 emit-requires c =
-    omega (arith, (told_room c.requires.0.stands ((pool_of c.close_available-c.result.head c.close_available-c.new.numbers c.close_available-c.new.times c.close_available-c.new.states c.close_available-c.new.waiters)) c.close_available-c.ensures _ ((pool_of c.tell_all-d.result.head c.tell_all-d.new.numbers c.tell_all-d.new.times c.tell_all-d.new.states c.tell_all-d.new.waiters)) c.tell_all-d.ensures), c.requires.1)
-
-pub overflow_add-result : goal.overflow_add-result
-overflow_add-result c = omega (arith, (told_room c.requires.0.stands ((pool_of c.close_available-c.result.head c.close_available-c.new.numbers c.close_available-c.new.times c.close_available-c.new.states c.close_available-c.new.waiters)) c.close_available-c.ensures _ ((pool_of c.tell_all-d.result.head c.tell_all-d.new.numbers c.tell_all-d.new.times c.tell_all-d.new.states c.tell_all-d.new.waiters)) c.tell_all-d.ensures))
+    let r = c.requires in
+    told_room r.0.stands r.2 r.1 c.close_available.ensures Gone c.tell_all.ensures
 
 pub returns : goal.returns
+unfolding shut enter
 returns c =
-    all_shut ((pool_of c.args.head c.args.numbers.now c.args.times.now c.args.states.now c.args.waiters.now)) ((pool_of c.close_available-c.result.head c.close_available-c.new.numbers c.close_available-c.new.times c.close_available-c.new.states c.close_available-c.new.waiters)) ((pool_of c.tell_all-d.result.head c.tell_all-d.new.numbers c.tell_all-d.new.times c.tell_all-d.new.states c.tell_all-d.new.waiters)) c.close_available-c.ensures c.tell_all-d.ensures c.emit.ensures
+    let p = pool_in c.args.worker.now in
+    let q = pool_in c.close_available.new.worker in
+    let r = pool_in c.tell_all.new.worker in
+    let stop = enter Closed p.generation in
+    let same = ap (λ (x : SlotPool). x.generation) c.tell_all.ensures.done.pool ∙ told_generation Gone q ∙ ap (λ (x : SlotPool). x.generation) c.close_available.ensures.done.pool ∙ close_front_generation p.availables p in
+    did_then (close_front p.availables) (tell_all Gone >> emit PoolShut >> stop) p c.close_available.ensures
+    (did_then (tell_all Gone) (emit PoolShut >> stop) q c.tell_all.ensures
+    (did_then (emit PoolShut) stop r (did_emit c.tell_all.new.worker c.emit.ensures) (did_quiet _ refl (rw same))))

@@ -1,0 +1,3 @@
+pub mod Laid
+pub mod Output
+pub mod Numbers

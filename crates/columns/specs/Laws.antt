@@ -1,36 +1,19 @@
 -- A pool value and its columns have the same view, a pool value is that of its view, and equal views are equal pools.
-use Rattle.std.specs.Prelude.{◌≡◌, refl, List, [], ◌∷◌, map, ℕ, suc, ◌≤◌, ◌<◌, length, get_or}
+use Rattle.std.specs.Prelude.{◌≡◌, refl, List, [], ◌∷◌, map, ℕ, suc, ◌≤◌, length, get_or}
 use Rattle.std.proofs.Common.{sym, ap, ◌∙◌, arith}
-use Rattle.std.proofs.lemmas.List.{length-map}
-use Rattle.definition.specs.Pool.{slot_count}
 use Rattle.definition.specs.Laws.{state_back, number_back}
-use Rattle.slots.specs.Columns.{column, Long, column_joined, zip}
+use Rattle.slots.specs.Columns.{zip}
 use Rattle.slots.specs.Parts.{slots_map}
 use Rattle.slots.specs.View as Of
-use Rattle.slots.specs.View.{SlotPool, pool_of, vacant}
-use Rattle.columns.specs.View.{id_of, generation_of, time_of, code_of, seen, view_of, columns_by, number_fields, number_columns, state_columns, numbers_of, times_of, states_of, together, pool_from}
+use Rattle.slots.specs.View.{SlotPool, pool_in, vacant}
+use Rattle.columns.specs.View.{id_of, generation_of, time_of, code_of, seen, view_of, worker_of, together, pool_from}
 use Rattle.pool.specs.declared.Slot.{Slot}
 use Rattle.pool.specs.declared.Pool.{Pool}
 
 -- ── The columns are the view's ─────────────────────────────────────────────────────────────────────────────────────────
 
-fields_long : (ss : List Slot) → length ss ≡ slot_count → (fs : List (Slot → ℕ)) → Long (columns_by fs ss)
-fields_long ss e [] = tt
-fields_long ss e (f ∷ fs) = (length-map ss f ∙ e, fields_long ss e fs)
-
-pub numbers_long : (ss : List Slot) → length ss ≡ slot_count → Long (number_columns ss)
-numbers_long ss e = fields_long ss e number_fields
-
-pub states_long : (ss : List Slot) (available : List ℕ) → length ss ≡ slot_count → length available ≡ slot_count → Long (state_columns ss available)
-states_long ss available e f = (length-map ss code_of ∙ e, (f, tt))
-
-pub view_columns : (p : Pool) → length p.slots ≡ slot_count → length p.available ≡ slot_count
-    → view_of p ≡ pool_of p.head (numbers_of p.slots) (times_of p.slots) (states_of p.slots p.available) p.waiters
-view_columns p e f =
-    let ss = p.slots in
-    let numbers : (k : ℕ) → k < length number_fields → column k (numbers_of ss) ≡ get_or (number_columns ss) k [] = column_joined (number_columns ss) (numbers_long ss e) in
-    let states : (k : ℕ) → k < 2 → column k (states_of ss p.available) ≡ get_or (state_columns ss p.available) k [] = column_joined (state_columns ss p.available) (states_long ss p.available e f) in
-    rw (numbers 0 (omega arith), slots_map generation_of time_of code_of ss (numbers_of ss) (states_of ss p.available) (numbers 1 (omega arith)) (states 0 (omega arith)), states 1 (omega arith))
+pub view_columns : (p : Pool) → view_of p ≡ pool_in (worker_of p)
+view_columns p = rw (slots_map generation_of time_of code_of p.slots)
 
 -- ── There and back ─────────────────────────────────────────────────────────────────────────────────────────────────────
 

@@ -1,14 +1,13 @@
 -- A pool value as the pool on slots that it is, its columns, and the pool value of a pool on slots.
-use Rattle.std.specs.Prelude.{List, [], ◌∷◌, map, ℕ, get_or}
+use Rattle.std.specs.Prelude.{List, map, ℕ, get_or}
 use Rattle.definition.specs.Pool.{state_no, state_of_no}
-use Rattle.slots.specs.Columns.{joined, zip}
+use Rattle.slots.specs.Columns.{zip}
 use Rattle.slots.specs.View as Of
 use Rattle.slots.specs.View.{SlotPool}
 use Rattle.slots.specs.declared.Head.{Head}
+use Rattle.slots.specs.declared.ConnectionPoolWorker.{ConnectionPoolWorker}
 use Rattle.pool.specs.declared.Slot.{Slot}
 use Rattle.pool.specs.declared.Pool.{Pool}
-use Rattle.columns.specs.declared.Parts.{Parts}
-use Rattle.columns.specs.declared.Table.{Table}
 
 -- ── What a slot holds ──────────────────────────────────────────────────────────────────────────────────────────────────
 
@@ -38,34 +37,16 @@ view_of p =
 
 -- ── Its columns ────────────────────────────────────────────────────────────────────────────────────────────────────────
 
--- what a slot gives to each of some columns, and the columns that the slots give
-abbrev pub cells_by : List (Slot → ℕ) → Slot → List ℕ
-cells_by fs s = map (λ (f : Slot → ℕ). f s) fs
-
-abbrev pub columns_by : List (Slot → ℕ) → List Slot → List (List ℕ)
-columns_by fs ss = map (λ (f : Slot → ℕ). map f ss) fs
-
--- the columns of `numbers`, in their order, and those of `states`
-abbrev pub number_fields : List (Slot → ℕ)
-number_fields = id_of ∷ generation_of ∷ []
-
-abbrev pub number_columns : List Slot → List (List ℕ)
-number_columns = columns_by number_fields
-
-abbrev pub state_columns : List Slot → List ℕ → List (List ℕ)
-state_columns ss available = map code_of ss ∷ available ∷ []
-
-abbrev pub numbers_of : List Slot → List ℕ
-numbers_of ss = joined (number_columns ss)
-
-abbrev pub times_of : List Slot → List ℕ
-times_of ss = map time_of ss
-
-abbrev pub states_of : List Slot → List ℕ → List ℕ
-states_of ss available = joined (state_columns ss available)
-
-abbrev pub columns_of : List Slot → List ℕ → Parts
-columns_of ss available = record { numbers = numbers_of ss; times = times_of ss; states = states_of ss available }
+abbrev pub worker_of : Pool → ConnectionPoolWorker
+worker_of p = record {
+  head = p.head;
+  ids = map id_of p.slots;
+  generations = map generation_of p.slots;
+  times = map time_of p.slots;
+  states = map code_of p.slots;
+  available = p.available;
+  waiters = p.waiters;
+}
 
 -- ── Back ───────────────────────────────────────────────────────────────────────────────────────────────────────────────
 
@@ -76,19 +57,16 @@ abbrev pub with_id : ℕ → Of.Slot → Slot
 with_id x s = slot_of x s.generation s.time s.state
 
 -- what the columns hold of slot i
-abbrev pub value_at : (numbers times states : List ℕ) → ℕ → Slot
-value_at numbers times states i = with_id (get_or numbers i 0) (Of.slot_in numbers times states i)
+abbrev pub value_at : ConnectionPoolWorker → ℕ → Slot
+value_at w i = with_id (get_or w.ids i 0) (Of.slot_in w.generations w.times w.states i)
 
 -- an id beside what its slot holds
 abbrev pub together : List ℕ → List Of.Slot → List Slot
 together = zip with_id
 
--- the slots of the columns, and the available ones
-abbrev pub slot_values : (numbers times states : List ℕ) → List Slot
-slot_values numbers times states = together (Of.ids_in numbers) (Of.slots_of numbers times states)
-
-abbrev pub table_of : (numbers times states : List ℕ) → Table
-table_of numbers times states = record { slots = slot_values numbers times states; available = Of.order_in states }
+-- the slots of the columns
+abbrev pub slot_values : ConnectionPoolWorker → List Slot
+slot_values w = together w.ids (Of.slots_of w.generations w.times w.states)
 
 abbrev pub head_of : SlotPool → Head
 head_of v = record {

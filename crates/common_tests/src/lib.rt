@@ -2,8 +2,8 @@
 #![tactic(auto)]
 
 ghost use Rattle.std.specs.Prelude.{◌≡◌};
-ghost use Rattle.definition.specs.Steps.{kind_no};
-ghost use Rattle.common_tests.specs.Tests.{taken_after, spent, common_verdict};
+ghost use Rattle.definition.specs.Refusals.{taken_after_close};
+ghost use Rattle.common_tests.specs.Tests.{spent, common_verdict};
 
 use definition::{Event, LAST_NEXT_ID, Refusal};
 use slots::Status;
@@ -11,90 +11,64 @@ use slots::Status;
 // A clear goes to the next generation; there is none behind this one.
 const LAST_GENERATION: u32 = 4294967295;
 
-// What the tests that every kind shares say.
-#[derive(Clone, Copy)]
-pub enum Common {
-    Refuse(Refusal),
-    Pass,
-}
-
-pub fn kind_no(e: Event) -> u8
-    ensures { result ≡ kind_no e }
+// Who holds a connection, or awaits one, is still heard after the close.
+fn taken_after_close(e: Event) -> bool
+    ensures { result ≡ taken_after_close e }
 {
     match e {
-        Event::CheckOut(_) => 1,
-        Event::WarmPool(_) => 2,
-        Event::Abandon(_) => 3,
-        Event::CheckIn(_, _, _, _) => 4,
-        Event::Clear(_, _) => 5,
-        Event::MarkAsReady => 6,
-        Event::Succeeded(_) => 7,
-        Event::SucceededForPool(_, _) => 8,
-        Event::Failed(_) => 9,
-        Event::Maintenance => 10,
-        Event::FillPool => 11,
-        Event::Pin(_) => 12,
-        Event::ReturnToPinner(_) => 13,
-        Event::TakeFromPinner(_) => 14,
-        Event::Close => 15,
+        Event::CheckIn(_, _, _, _)
+        | Event::Succeeded(_)
+        | Event::SucceededForPool(_, _)
+        | Event::Failed(_)
+        | Event::Pin(_)
+        | Event::ReturnToPinner(_)
+        | Event::TakeFromPinner(_) => true,
+        Event::CheckOut(_)
+        | Event::WarmPool(_)
+        | Event::Abandon(_)
+        | Event::Clear(_, _)
+        | Event::MarkAsReady
+        | Event::Maintenance
+        | Event::FillPool
+        | Event::Close => false,
     }
-}
-
-// Who holds a connection, or awaits one, is still heard after the close.
-fn taken_after_close(kind: u8) -> bool
-    ensures { result ≡ taken_after kind }
-{
-    if kind == 4 {
-        return true;
-    }
-    if kind < 7 {
-        return false;
-    }
-    if kind <= 9 {
-        return true;
-    }
-    if kind < 12 {
-        return false;
-    }
-    kind <= 14
 }
 
 // 5, of an open pool.
-fn numbers_spent(kind: u8, generation: u32, next_id: u32) -> bool
-    ensures { result ≡ spent kind generation next_id }
+fn numbers_spent(e: Event, generation: u32, next_id: u32) -> bool
+    ensures { result ≡ spent e generation next_id }
 {
-    if kind == 15 {
-        return false;
+    match e {
+        Event::Close => false,
+        Event::Clear(_, _) => LAST_NEXT_ID < next_id || generation == LAST_GENERATION,
+        _ => LAST_NEXT_ID < next_id,
     }
-    if LAST_NEXT_ID < next_id {
-        return true;
-    }
-    if kind == 5 {
-        return generation == LAST_GENERATION;
-    }
-    false
 }
 
 // 2, of a clear; 3, 4 and 5.
-pub fn common_verdict(clock: u64, next_id: u32, m: Status, time: u64, e: Event) -> Common
+pub fn common_verdict(
+    clock: u64,
+    next_id: u32,
+    m: Status,
+    time: u64,
+    e: Event,
+) -> Result<(), Refusal>
     ensures { result ≡ common_verdict clock next_id m time e }
 {
     if reading::causeless(e) {
-        return Common::Refuse(Refusal::Malformed);
+        return Err(Refusal::Malformed);
     }
     if time < clock {
-        return Common::Refuse(Refusal::ClockBack);
+        return Err(Refusal::ClockBack);
     }
-    let kind = kind_no(e);
-    let st = m.state;
-    if conditions::is_closed(st) {
-        if taken_after_close(kind) {
-            return Common::Pass;
+    if conditions::is_closed(m.state) {
+        if taken_after_close(e) {
+            return Ok(());
         }
-        return Common::Refuse(Refusal::AfterClose);
+        return Err(Refusal::AfterClose);
     }
-    if numbers_spent(kind, m.generation, next_id) {
-        return Common::Refuse(Refusal::NumbersSpent);
+    if numbers_spent(e, m.generation, next_id) {
+        return Err(Refusal::NumbersSpent);
     }
-    Common::Pass
+    Ok(())
 }

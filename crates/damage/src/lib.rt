@@ -1,123 +1,102 @@
-// A pool value with one number put into it, whatever rule that breaks. What is damaged has a number: 0 to 2 the options' maximum,
-// minimum and connecting, 3 to 6 the counts of all, pending, available and waiting, 7 the next id, 8 the last request, 9 the serial,
-// 10 the generation; 11 to 14 a slot's id, generation, time and state, 15 a place of the available list, 16 one of the queue, 17 the
-// clock; 18 makes the pool New, 19 Paused for that cause, 20 Ready, 21 Closed.
+// A pool value with one number put into it, whatever rule that breaks.
 #![tactic(auto)]
 
-use definition::{Options, PoolState, QUEUE, SLOTS};
-use pool::{Pool, Slot};
-use slots::{Head, Status};
+use definition::{ConnectionState, PoolState, QUEUE, SLOTS};
+use pool::Pool;
 
-fn limits(o: Options, what: u8, x: u32) -> Options {
-    let mut l = o;
-    match what {
-        0 => l.maximum = x,
-        1 => l.minimum = x,
-        _ => l.connecting = x,
-    }
-    l
+// What is damaged, in order of the bytes that name it.
+#[derive(Clone, Copy)]
+pub enum Damage {
+    Maximum,
+    Minimum,
+    Connecting,
+    TotalCount,
+    PendingCount,
+    AvailableCount,
+    WaitingCount,
+    NextId,
+    LastRequest,
+    Serial,
+    Generation,
+    SlotId,
+    SlotGeneration,
+    SlotTime,
+    SlotState,
+    // a place of the available list
+    Available,
+    // a place of the queue
+    Waiter,
+    Clock,
+    New,
+    // for that cause
+    Paused,
+    Ready,
+    Closed,
 }
 
-fn numbers(h: Head, what: u8, x: u32) -> Head {
-    let mut g = h;
-    match what {
-        0..=2 => {
-            let o = h.options;
-            let l = limits(o, what, x);
-            g.options = l;
+// Any byte past them closes the pool.
+impl From<u8> for Damage {
+    fn from(byte: u8) -> Damage {
+        match byte {
+            0 => Damage::Maximum,
+            1 => Damage::Minimum,
+            2 => Damage::Connecting,
+            3 => Damage::TotalCount,
+            4 => Damage::PendingCount,
+            5 => Damage::AvailableCount,
+            6 => Damage::WaitingCount,
+            7 => Damage::NextId,
+            8 => Damage::LastRequest,
+            9 => Damage::Serial,
+            10 => Damage::Generation,
+            11 => Damage::SlotId,
+            12 => Damage::SlotGeneration,
+            13 => Damage::SlotTime,
+            14 => Damage::SlotState,
+            15 => Damage::Available,
+            16 => Damage::Waiter,
+            17 => Damage::Clock,
+            18 => Damage::New,
+            19 => Damage::Paused,
+            20 => Damage::Ready,
+            _ => Damage::Closed,
         }
-        3 => g.total_connection_count = x,
-        4 => g.pending_connection_count = x,
-        5 => g.available_count = x as usize,
-        6 => g.waiting_count = x as usize,
-        7 => g.next_connection_id = x,
-        8 => g.last_request = x,
-        9 => g.serial = x,
-        _ => {
-            let s = h.status;
-            let t = s.state;
-            let u = Status {
-                state: t,
-                generation: x,
-            };
-            g.status = u;
-        }
-    }
-    g
-}
-
-fn state(what: u8, cause: u32) -> PoolState {
-    match what {
-        18 => PoolState::New,
-        19 => PoolState::Paused(cause),
-        20 => PoolState::Ready,
-        _ => PoolState::Closed,
     }
 }
 
-// The clock, or the state.
-fn turned(h: Head, what: u8, x: u64) -> Head {
-    let mut g = h;
-    if what == 17 {
-        g.clock = x;
-        return g;
+// Place i, where there are several, gets x; where there is no such place, nothing does.
+pub fn damaged(mut p: Pool, what: u8, i: usize, x: u64) -> Pool {
+    let low = (x % 4294967296) as u32;
+    let lowest = (x % 256) as u8;
+    match Damage::from(what) {
+        Damage::Maximum => p.head.options.maximum = low,
+        Damage::Minimum => p.head.options.minimum = low,
+        Damage::Connecting => p.head.options.connecting = low,
+        Damage::TotalCount => p.head.total_connection_count = low,
+        Damage::PendingCount => p.head.pending_connection_count = low,
+        Damage::AvailableCount => p.head.available_count = low as usize,
+        Damage::WaitingCount => p.head.waiting_count = low as usize,
+        Damage::NextId => p.head.next_connection_id = low,
+        Damage::LastRequest => p.head.last_request = low,
+        Damage::Serial => p.head.serial = low,
+        Damage::Generation => p.head.status.generation = low,
+        Damage::SlotId if i < SLOTS => p.slots[i].id = low,
+        Damage::SlotGeneration if i < SLOTS => p.slots[i].generation = low,
+        Damage::SlotTime if i < SLOTS => p.slots[i].time = x,
+        Damage::SlotState if i < SLOTS => p.slots[i].state = ConnectionState::from(lowest),
+        Damage::Available if i < SLOTS => p.available[i] = lowest,
+        Damage::Waiter if i < QUEUE => p.waiters[i] = x,
+        Damage::SlotId
+        | Damage::SlotGeneration
+        | Damage::SlotTime
+        | Damage::SlotState
+        | Damage::Available
+        | Damage::Waiter => {}
+        Damage::Clock => p.head.clock = x,
+        Damage::New => p.head.status.state = PoolState::New,
+        Damage::Paused => p.head.status.state = PoolState::Paused(low),
+        Damage::Ready => p.head.status.state = PoolState::Ready,
+        Damage::Closed => p.head.status.state = PoolState::Closed,
     }
-    let s = h.status;
-    let t = state(what, (x % 4294967296) as u32);
-    let u = Status {
-        state: t,
-        generation: s.generation,
-    };
-    g.status = u;
-    g
-}
-
-fn slot(s: Slot, what: u8, x: u64) -> Slot {
-    let mut t = s;
-    let v = (x % 4294967296) as u32;
-    match what {
-        11 => t.id = v,
-        12 => t.generation = v,
-        13 => t.time = x,
-        _ => {
-            let state = columns::state_of((x % 256) as u8);
-            return Slot {
-                id: s.id,
-                generation: s.generation,
-                time: s.time,
-                state: state,
-            };
-        }
-    }
-    t
-}
-
-// Place i, where there are several, gets x.
-pub fn damaged(p: Pool, what: u8, i: usize, x: u64) -> Pool {
-    let mut q = p;
-    if what < 11 {
-        let h = p.head;
-        q.head = numbers(h, what, (x % 4294967296) as u32);
-        return q;
-    }
-    if 16 < what {
-        let h = p.head;
-        q.head = turned(h, what, x);
-        return q;
-    }
-    if what == 16 {
-        if i < QUEUE {
-            q.waiters[i] = x;
-        }
-        return q;
-    }
-    if i < SLOTS {
-        if what == 15 {
-            q.available[i] = (x % 256) as u8;
-            return q;
-        }
-        let s = p.slots[i];
-        q.slots[i] = slot(s, what, x);
-    }
-    q
+    p
 }

@@ -5,10 +5,10 @@ use Rattle.definition.specs.Refusals.{refusal_no, enough_room}
 use Rattle.definition.specs.Bytes.{frame_of}
 use Rattle.definition.specs.declared.Refusal.TheVariants.{OutputShort, Malformed}
 use Rattle.slots.specs.Call.{World, call}
-use Rattle.slots.specs.declared.Outcome.{Outcome}
-use Rattle.slots.specs.declared.Outcome.TheVariants.{Refused, Accepted}
+use Rattle.slots.specs.Outcome.{Outcome}
+use Rattle.std.specs.declared.result.Result.TheVariants.{Ok, Err}
 use Rattle.rules.specs.Tests.{keeps_rules}
-use Rattle.columns.specs.View.{view_of, numbers_of, times_of, states_of, pool_from}
+use Rattle.columns.specs.View.{view_of, worker_of, pool_from}
 use Rattle.pool.specs.declared.Pool.{Pool}
 
 -- what a call leaves: the pool, the output, and the answer
@@ -22,16 +22,16 @@ entered p l o = record { pool = p; out = l; outcome = o }
 
 -- an answer as the paper's two numbers: that of the refusal, 0 where there is none; and how many records were written
 abbrev pub refusal_in : Outcome → ℕ
-refusal_in (Refused r) = refusal_no r
-refusal_in (Accepted n) = 0
+refusal_in (Err r) = refusal_no r
+refusal_in (Ok n) = 0
 
 abbrev pub records_in : Outcome → ℕ
-records_in (Refused r) = 0
-records_in (Accepted n) = n
+records_in (Err r) = 0
+records_in (Ok n) = n
 
 -- the structure test
 abbrev pub keeps : Pool → Bool
-keeps p = keeps_rules p.head (numbers_of p.slots) (times_of p.slots) (states_of p.slots p.available) p.waiters
+keeps p = keeps_rules (worker_of p)
 
 -- a call on slots, as one on a pool value
 abbrev pub back : World → Entered
@@ -40,6 +40,6 @@ back w = entered (pool_from w.pool) w.out w.outcome
 -- any pool value, any bytes, any output
 unfoldable pub entry : Pool → (bytes : List ℕ) → (out : List ℕ) → Entered
 entry p b l =
-    when length l <? enough_room then entered p l (Refused OutputShort) else
+    when length l <? enough_room then entered p l (Err OutputShort) else
     when keeps p then back (call (view_of p) l (frame_of b)) else
-    entered p l (Refused Malformed)
+    entered p l (Err Malformed)

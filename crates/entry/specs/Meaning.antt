@@ -2,7 +2,7 @@
 -- the definition's run; a pool that breaks a rule is refused; a making is the definition's; counts are lengths.
 use Rattle.std.specs.Prelude.{◌≡◌, refl, true, false, List, [], ◌∷◌, map, ℕ, ◌+◌, length, take}
 use Rattle.std.proofs.Common.{sym, ap, subst, ◌∙◌, arith, length-take-le, ltb-true, ltb-false}
-use Rattle.std.proofs.Math.Option.{Option, none, some}
+use Rattle.std.specs.Prelude.{Option, None as none, Some as some}
 use Rattle.std.proofs.lemmas.List.{length-map}
 use Rattle.definition.specs.Booleans.{by_bool, by_eq}
 use Rattle.definition.specs.Words.{when◌then◌else◌, ◌<?◌}
@@ -19,8 +19,8 @@ use Rattle.slots.specs.View.{SlotPool, Slot, waiter_of}
 use Rattle.slots.specs.View as View
 use Rattle.slots.specs.Done.{lay}
 use Rattle.slots.specs.Call.{call}
-use Rattle.slots.specs.declared.Outcome.{Outcome}
-use Rattle.slots.specs.declared.Outcome.TheVariants.{Refused, Accepted}
+use Rattle.slots.specs.Outcome.{Outcome}
+use Rattle.std.specs.declared.result.Result.TheVariants.{Ok, Err}
 use Rattle.refinement.specs.Stands.{Stands, Formed}
 use Rattle.refinement.specs.Rules.{Rules, lists_of}
 use Rattle.refinement.proofs.Rules.{rules_stand, rules_formed, formed_rules}
@@ -46,11 +46,11 @@ use Rattle.pool.specs.declared.Counts.{Counts}
 abbrev pub short_or_bad : List ℕ → Refusal
 short_or_bad l = when length l <? enough_room then OutputShort else Malformed
 
-pub unkept : (p : Pool) (b l : List ℕ) → keeps p ≡ false → entry p b l ≡ entered p l (Refused (short_or_bad l))
+pub unkept : (p : Pool) (b l : List ℕ) → keeps p ≡ false → entry p b l ≡ entered p l (Err (short_or_bad l))
 unfolding entry when◌then◌else◌
 unkept p b l k = by_bool (length l <? enough_room) (λ h. rw h) (λ h. rw (h, k))
 
-pub entry_unkept : (p : Pool) → Typed p → (Rules (view_of p) → ⊥) → (b l : List ℕ) → entry p b l ≡ entered p l (Refused (short_or_bad l))
+pub entry_unkept : (p : Pool) → Typed p → (Rules (view_of p) → ⊥) → (b l : List ℕ) → entry p b l ≡ entered p l (Err (short_or_bad l))
 entry_unkept p t n b l = by_bool (keeps p) (λ k. absurd (n ((keeps_exact p t).sound k))) (unkept p b l)
 
 -- ── A pool that keeps the rules ────────────────────────────────────────────────────────────────────────────────────────
@@ -76,7 +76,7 @@ module _ (p : Pool) (f : Formed (view_of p)) (b l : List ℕ) where
   pub entry_back : entry p b l ≡ back (call (view_of p) l (frame_of b))
   entry_back = by_bool (length l <? enough_room)
       (λ h. let s = ltb-true (length l) enough_room h in
-      entry_short p b l s ∙ ap (λ (q : Pool). entered q l (Refused OutputShort)) (sym (back_view p)) ∙ ap back (sym (call_short (view_of p) l (frame_of b) s)))
+      entry_short p b l s ∙ ap (λ (q : Pool). entered q l (Err OutputShort)) (sym (back_view p)) ∙ ap back (sym (call_short (view_of p) l (frame_of b) s)))
       (λ h. entry_kept p b l (ltb-false (length l) enough_room h) (formed_keeps p f))
 
   pub entry_view : view_of (entry p b l).pool ≡ (call (view_of p) l (frame_of b)).pool
@@ -89,11 +89,11 @@ module _ (p : Pool) (f : Formed (view_of p)) (b l : List ℕ) where
 pub record Done (p : Pool) (l : List ℕ) (w : Entered) (o : Out D.Pool) : Type 0 where
   pub pool : Stands (view_of w.pool) o.pool
   pub out : w.out ≡ lay p.head.serial 0 o.records l
-  pub outcome : w.outcome ≡ Accepted (length o.records)
+  pub outcome : w.outcome ≡ Ok (length o.records)
 
 -- the definition's answer: the same refusal, and nothing is changed; or the same records, and the pool of the lists
 pub record Meant (p : Pool) (l : List ℕ) (w : Entered) (r : R.Result) : Type 0 where
-  pub refuses : (x : Refusal) → r ≡ R.Refused x → w ≡ entered p l (Refused x)
+  pub refuses : (x : Refusal) → r ≡ R.Refused x → w ≡ entered p l (Err x)
   pub accepts : (o : Out D.Pool) → r ≡ R.Accepted o → Done p l w o
 
 pub entry_meant : (p : Pool) (m : D.Pool) → Stands (view_of p) m → Formed (view_of p) → (b l : List ℕ)
@@ -102,7 +102,7 @@ entry_meant p m st f b l =
     let one = call_refines (view_of p) m st (frame_of b) l in
     let e = entry_back p f b l in
     record {
-      refuses = λ x h. e ∙ ap back (one.refuses x h) ∙ ap (λ (q : Pool). entered q l (Refused x)) (back_view p);
+      refuses = λ x h. e ∙ ap back (one.refuses x h) ∙ ap (λ (q : Pool). entered q l (Err x)) (back_view p);
       accepts = λ o h.
           let t = one.accepts o h in
           record {
@@ -185,8 +185,8 @@ left_formed [] p f = f
 left_formed (c ∷ cs) p f = left_formed cs (entry p c.bytes c.out).pool (entry_formed p f c.bytes c.out)
 
 recorded : (o : Outcome) → records_in o ≡ wrote o
-recorded (Refused r) = refl
-recorded (Accepted n) = refl
+recorded (Err r) = refl
+recorded (Ok n) = refl
 
 told_writes : (cs : List Lend) (p : Pool) → Formed (view_of p) → told cs p ≡ writes (map read cs) (view_of p)
 unfolding told writes
@@ -218,14 +218,14 @@ made_view o = refl
 -- a making is the definition's
 pub record Makes (o : Options) (w : Made) : Type 0 where
   pub refuses : (x : Refusal) → make o ≡ R.NotMade x → w ≡ not_made x
-  pub accepts : (m : D.Pool) → make o ≡ R.Made m → (w.outcome ≡ Accepted 0) × Stands (view_of w.pool) m × Formed (view_of w.pool)
+  pub accepts : (m : D.Pool) → make o ≡ R.Made m → (w.outcome ≡ Ok 0) × Stands (view_of w.pool) m × Formed (view_of w.pool)
 
 module _ (o : Options) (h : in_range (with_defaults o) ≡ true) where
   makes : make o ≡ R.Made (fresh (with_defaults o))
   unfolding make when◌then◌else◌
   makes = rw h
 
-  pub making_makes : making o ≡ record { outcome = Accepted 0; pool = fresh_pool (with_defaults o) }
+  pub making_makes : making o ≡ record { outcome = Ok 0; pool = fresh_pool (with_defaults o) }
   unfolding making when◌then◌else◌
   making_makes = rw h
 
@@ -245,7 +245,7 @@ making_meant o = by_bool (in_range (with_defaults o))
       accepts = λ m e.
           let k = makes o h in
           let d : fresh (with_defaults o) ≡ m = cc in
-          subst (λ (w : Made). (w.outcome ≡ Accepted 0) × Stands (view_of w.pool) m × Formed (view_of w.pool)) (sym (making_makes o h))
+          subst (λ (w : Made). (w.outcome ≡ Ok 0) × Stands (view_of w.pool) m × Formed (view_of w.pool)) (sym (making_makes o h))
           (refl, subst (λ (q : D.Pool). Stands (fresh_slots (with_defaults o)) q) d (fresh_stands (with_defaults o) h), fresh_formed (with_defaults o) h);
     })
     (λ h. record {
@@ -264,16 +264,16 @@ pub no_pool_keeps : keeps no_pool ≡ false
 unfolding keeps_rules hangs_together in_range
 no_pool_keeps = refl
 
-pub no_pool_refuses : (b l : List ℕ) → entry no_pool b l ≡ entered no_pool l (Refused (short_or_bad l))
+pub no_pool_refuses : (b l : List ℕ) → entry no_pool b l ≡ entered no_pool l (Err (short_or_bad l))
 no_pool_refuses b l = unkept no_pool b l no_pool_keeps
 
-pub refused_unusable : (g : Option Options) (r : Refusal) → (making_from g).outcome ≡ Refused r → (b l : List ℕ)
-    → entry (making_from g).pool b l ≡ entered (making_from g).pool l (Refused (short_or_bad l))
+pub refused_unusable : (g : Option Options) (r : Refusal) → (making_from g).outcome ≡ Err r → (b l : List ℕ)
+    → entry (making_from g).pool b l ≡ entered (making_from g).pool l (Err (short_or_bad l))
 unfolding making_from
 refused_unusable none r h b l = no_pool_refuses b l
 refused_unusable (some o) r h b l = by_bool (in_range (with_defaults o))
-    (λ t. let k : (making o).outcome ≡ Accepted 0 = ap (λ (w : Made). w.outcome) (making_makes o t) in let z : ◌≡◌ {A = ℕ} 0 1 = cc in absurd (omega arith))
-    (λ t. subst (λ (w : Made). entry w.pool b l ≡ entered w.pool l (Refused (short_or_bad l))) (sym (making_refuses o t)) (no_pool_refuses b l))
+    (λ t. let k : (making o).outcome ≡ Ok 0 = ap (λ (w : Made). w.outcome) (making_makes o t) in let z : ◌≡◌ {A = ℕ} 0 1 = cc in absurd (omega arith))
+    (λ t. subst (λ (w : Made). entry w.pool b l ≡ entered w.pool l (Err (short_or_bad l))) (sym (making_refuses o t)) (no_pool_refuses b l))
 
 -- ── Counts ─────────────────────────────────────────────────────────────────────────────────────────────────────────────
 

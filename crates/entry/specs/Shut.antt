@@ -6,7 +6,9 @@ use Rattle.definition.specs.Booleans.{by_bool}
 use Rattle.definition.specs.Words.{when◌then◌else◌}
 use Rattle.definition.specs.Pool as D
 use Rattle.definition.specs.Pool.{fresh, in_range}
-use Rattle.definition.specs.Records.{Record, PoolReady, told}
+use Rattle.definition.specs.Records.{told}
+use Rattle.definition.specs.declared.Record.{Record}
+use Rattle.definition.specs.declared.Record.TheVariants.{PoolReady}
 use Rattle.definition.specs.Steps.{Out, ◌>>◌, leave_lent, leave_pending, shelve, lend_out, create_pending_connection, create_many, close_perished, enter, queue, request, mark_as_ready, succeeded_for_pool, remove_perished, ensure_min_connections, maintenance, handle, can_service, establish, lend, take_available, check_out, serve_front, service, event}
 use Rattle.definition.specs.Refusals as R
 use Rattle.definition.specs.Refusals.{first, tests, outcome, after, run, enough_room}
@@ -19,8 +21,8 @@ use Rattle.definition.specs.declared.Frame.TheVariants.{Good}
 use Rattle.definition.specs.declared.PoolState.TheVariants.{Ready}
 use Rattle.definition.specs.declared.Refusal.{Refusal}
 use Rattle.slots.specs.Done.{lay}
-use Rattle.slots.specs.Laid.{laid}
-use Rattle.slots.specs.declared.Outcome.TheVariants.{Refused, Accepted}
+use Rattle.records.specs.Laid.{laid}
+use Rattle.std.specs.declared.result.Result.TheVariants.{Ok, Err}
 use Rattle.refinement.specs.Stands.{Stands, Formed}
 use Rattle.refinement.specs.Rules.{Rules, lists_of}
 use Rattle.refinement.proofs.Rules.{rules_stand}
@@ -215,22 +217,22 @@ module _ (e : Calling) (h : Meets e) where
   second_call : e next asked room ≡ entry next asked room
   second_call = h next (formed_typed next goes_on) asked room
 
-  says_one : (e start ready room).outcome ≡ Accepted 1
-  says_one = ap (λ (w : Entered). w.outcome) first_call ∙ done1.outcome ∙ ap (λ (rs : List Record). Accepted (length rs)) calls.one
+  says_one : (e start ready room).outcome ≡ Ok 1
+  says_one = ap (λ (w : Entered). w.outcome) first_call ∙ done1.outcome ∙ ap (λ (rs : List Record). Ok (length rs)) calls.one
 
-  says_two : (e next asked room).outcome ≡ Accepted 2
-  says_two = ap (λ (w : Entered). w.outcome) second_call ∙ done2.outcome ∙ ap Accepted calls.two
+  says_two : (e next asked room).outcome ≡ Ok 2
+  says_two = ap (λ (w : Entered). w.outcome) second_call ∙ done2.outcome ∙ ap Ok calls.two
 
   -- not one that refuses everything
-  pub not_refusing : ((p : Pool) (b l : List ℕ) → (r : Refusal) × ((e p b l).outcome ≡ Refused r)) → ⊥
+  pub not_refusing : ((p : Pool) (b l : List ℕ) → (r : Refusal) × ((e p b l).outcome ≡ Err r)) → ⊥
   not_refusing n =
       let r = n start ready room in
-      let a : (e start ready room).outcome ≡ Refused r.0 = r.1 in
+      let a : (e start ready room).outcome ≡ Err r.0 = r.1 in
       let b = says_one in
       let z : ◌≡◌ {A = ℕ} 0 1 = cc in omega arith
 
   -- nor one that answers 17 always
-  pub not_17_always : ((p : Pool) (b l : List ℕ) (n : ℕ) → (e p b l).outcome ≡ Accepted n → get_or (e p b l).out 0 0 ≡ 17) → ⊥
+  pub not_17_always : ((p : Pool) (b l : List ℕ) (n : ℕ) → (e p b l).outcome ≡ Ok n → get_or (e p b l).out 0 0 ≡ 17) → ⊥
   not_17_always n =
       let a : get_or (e start ready room).out 0 0 ≡ 5 =
       ap (λ (w : Entered). get_or w.out 0 0) first_call
@@ -259,7 +261,7 @@ module _ (e : Calling) (h : Meets e) where
       omega (arith, a, b, n next asked room (omega (arith, s)))
 
   -- nor one that invents its count
-  pub not_inventing : (c : ℕ) → ((p : Pool) (b l : List ℕ) (n : ℕ) → (e p b l).outcome ≡ Accepted n → n ≡ c) → ⊥
+  pub not_inventing : (c : ℕ) → ((p : Pool) (b l : List ℕ) (n : ℕ) → (e p b l).outcome ≡ Ok n → n ≡ c) → ⊥
   not_inventing c n = omega (arith, n start ready room 1 says_one, n next asked room 2 says_two)
 
   -- one waiter at most is taken out of any pool value by any bytes, save by a clear or a close;
@@ -269,7 +271,7 @@ module _ (e : Calling) (h : Meets e) where
   -- so it is not one that serves twice: a fill, where two wait and two are available, would take both from the queue
   pub not_serving_twice :
       ((p : Pool) (l : List ℕ) (n : ℕ) → p.head.status.state ≡ Ready → 2 ≤ p.head.available_count → 2 ≤ p.head.waiting_count
-      → (e p fill l).outcome ≡ Accepted n → (e p fill l).pool.head.waiting_count + 2 ≤ p.head.waiting_count) → ⊥
+      → (e p fill l).outcome ≡ Ok n → (e p fill l).pool.head.waiting_count + 2 ≤ p.head.waiting_count) → ⊥
   not_serving_twice n =
       let t = formed_typed busy busy_ran.formed in
       let c = counts_meant busy busy_lists busy_stands in

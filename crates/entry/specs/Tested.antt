@@ -10,18 +10,16 @@ use Rattle.definition.specs.Refusals.{enough_room}
 use Rattle.definition.specs.Bytes.{frame_of}
 use Rattle.definition.specs.declared.Frame.{Frame}
 use Rattle.definition.specs.declared.Refusal.TheVariants.{OutputShort, Malformed}
-use Rattle.slots.specs.View.{SlotPool, pool_of, Whole}
+use Rattle.slots.specs.View.{SlotPool, pool_in, Whole}
 use Rattle.slots.specs.Call.{world, call}
-use Rattle.slots.specs.declared.Head.{Head}
-use Rattle.slots.specs.declared.Outcome.{Outcome}
-use Rattle.slots.specs.declared.Outcome.TheVariants.{Refused}
+use Rattle.slots.specs.declared.ConnectionPoolWorker.{ConnectionPoolWorker}
+use Rattle.slots.specs.Outcome.{Outcome}
+use Rattle.std.specs.declared.result.Result.TheVariants.{Err}
 use Rattle.rules.specs.Exact.{Exactly, exactly}
-use Rattle.columns.specs.View.{id_of, seen, view_of, numbers_of, times_of, states_of, columns_of, table_of, pool_from}
+use Rattle.columns.specs.View.{id_of, seen, view_of, worker_of, pool_from}
 use Rattle.entry.specs.Entry.{entered, keeps, back, entry}
 use Rattle.columns.specs.Laws.{view_columns}
 use Rattle.pool.specs.declared.Pool.{Pool}
-use Rattle.columns.specs.declared.Parts.{Parts}
-use Rattle.columns.specs.declared.Table.{Table}
 
 -- what the types of the code say of every pool value
 pub record Typed (p : Pool) : Type 0 where
@@ -43,10 +41,8 @@ view_whole p t = record {
 -- it is exact: a pool value passes exactly where its view keeps the rules
 pub keeps_exact : (p : Pool) → Typed p → Exactly (keeps p) (view_of p)
 keeps_exact p t =
-    let e = view_columns p t.slots t.available in
-    subst (λ (v : SlotPool). Exactly (keeps p) v) (sym e)
-    (exactly p.head (numbers_of p.slots) (times_of p.slots) (states_of p.slots p.available) p.waiters (keeps p)
-    (subst Whole e (view_whole p t)) t.serial refl)
+    let e = view_columns p in
+    subst (λ (v : SlotPool). Exactly (keeps p) v) (sym e) (exactly (worker_of p) (keeps p) (subst Whole e (view_whole p t)) t.serial refl)
 
 -- and any other exact one says the same
 pub same_test : (a b : Bool) (v : SlotPool) → Exactly a v → Exactly b v → a ≡ b
@@ -58,11 +54,11 @@ same_test false false v x y = refl
 -- ── A call, case by case ───────────────────────────────────────────────────────────────────────────────────────────────
 
 module _ (p : Pool) (b l : List ℕ) where
-  pub entry_short : length l < enough_room → entry p b l ≡ entered p l (Refused OutputShort)
+  pub entry_short : length l < enough_room → entry p b l ≡ entered p l (Err OutputShort)
   unfolding entry when◌then◌else◌
   entry_short h = rw (lt-ltb (length l) enough_room h)
 
-  pub entry_broken : enough_room ≤ length l → keeps p ≡ false → entry p b l ≡ entered p l (Refused Malformed)
+  pub entry_broken : enough_room ≤ length l → keeps p ≡ false → entry p b l ≡ entered p l (Err Malformed)
   unfolding entry when◌then◌else◌
   entry_broken h k = rw (le-ltb (length l) enough_room h, k)
 
@@ -72,29 +68,22 @@ module _ (p : Pool) (b l : List ℕ) where
 
 -- ── What the code does ─────────────────────────────────────────────────────────────────────────────────────────────────
 
-module _ (p : Pool) (t : Typed p) (r : Parts) (a : r ≡ columns_of p.slots p.available) where
-  -- the columns that were taken are the view's
-  apart_view : pool_of p.head r.numbers r.times r.states p.waiters ≡ view_of p
-  apart_view =
-      ap (λ (x : Parts). pool_of p.head x.numbers x.times x.states p.waiters) a ∙ sym (view_columns p t.slots t.available)
+module _ (p : Pool) (t : Typed p) {w : ConnectionPoolWorker} (a : w ≡ worker_of p) where
+  -- the worker that was made works on the view
+  worker_view : pool_in w ≡ view_of p
+  worker_view = ap (λ (x : ConnectionPoolWorker). pool_in x) a ∙ sym (view_columns p)
 
-  pub apart_whole : Whole (pool_of p.head r.numbers r.times r.states p.waiters)
-  apart_whole = subst Whole (sym apart_view) (view_whole p t)
+  -- k is what the test of the worker said
+  module _ {k : Bool} (x : Exactly k (pool_in w)) (b l : List ℕ) (room : enough_room ≤ length l) where
+    worker_test : keeps p ≡ k
+    worker_test = same_test (keeps p) k (view_of p) (keeps_exact p t) (subst (λ (v : SlotPool). Exactly k v) worker_view x)
 
-  -- k is what the test of the columns said
-  module _ (k : Bool) (x : Exactly k (pool_of p.head r.numbers r.times r.states p.waiters))
-      (b l : List ℕ) (room : enough_room ≤ length l) where
-    apart_test : keeps p ≡ k
-    apart_test = same_test (keeps p) k (view_of p) (keeps_exact p t) (subst (λ (v : SlotPool). Exactly k v) apart_view x)
+    pub step_broken : k ≡ false → entered p l (Err Malformed) ≡ entry p b l
+    step_broken e = sym (entry_broken p b l room (worker_test ∙ e))
 
-    pub step_broken : k ≡ false → entered p l (Refused Malformed) ≡ entry p b l
-    step_broken e = sym (entry_broken p b l room (apart_test ∙ e))
-
-    pub step_done : k ≡ true → (f : Frame) → f ≡ frame_of b → (h : Head) (ns ts ss ws l' : List ℕ) (o : Outcome) (g : Table)
-        → world (pool_of h ns ts ss ws) l' o ≡ call (pool_of p.head r.numbers r.times r.states p.waiters) l f → g ≡ table_of ns ts ss
-        → entered (record { head = h; slots = g.slots; available = g.available; waiters = ws }) l' o ≡ entry p b l
-    unfolding pool_from
-    step_done e f ef h ns ts ss ws l' o g w n =
-        ap (λ (y : Table). entered (record { head = h; slots = y.slots; available = y.available; waiters = ws }) l' o) n
-        ∙ ap back (w ∙ ap (λ (v : SlotPool). call v l f) apart_view ∙ ap (call (view_of p) l) ef)
-        ∙ sym (entry_kept p b l room (apart_test ∙ e))
+    pub step_done : k ≡ true → {f : Frame} → f ≡ frame_of b → {v : SlotPool} {l' : List ℕ} {o : Outcome} {q : Pool}
+        → world v l' o ≡ call (pool_in w) l f → q ≡ pool_from v → entered q l' o ≡ entry p b l
+    step_done e {f} ef {v} {l'} {o} {q} c n =
+        ap (λ (y : Pool). entered y l' o) n
+        ∙ ap back (c ∙ ap (λ (z : SlotPool). call z l f) worker_view ∙ ap (call (view_of p) l) ef)
+        ∙ sym (entry_kept p b l room (worker_test ∙ e))

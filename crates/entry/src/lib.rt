@@ -8,7 +8,7 @@ use definition::{ROOM, Refusal};
 use pool::Pool;
 use slots::Outcome;
 
-// The answer stands first: where it lies does not depend on the pool's size.
+// Not a Result: a refused step gives a pool too (`entry`). The answer stands first: where it lies does not depend on the pool's size.
 #[derive(Clone, Copy)]
 pub struct Stepped {
     pub outcome: Outcome,
@@ -21,47 +21,20 @@ pub fn step(pool: Pool, frame: &[u8], out: &mut [u8]) -> Stepped
 {
     if out.len() < ROOM {
         return Stepped {
-            outcome: Outcome::Refused(Refusal::OutputShort),
-            pool: pool,
+            outcome: Err(Refusal::OutputShort),
+            pool,
         };
     }
-    let head = pool.head;
-    let slots = pool.slots;
-    let available = pool.available;
-    let mut waiters = pool.waiters;
-    let c = columns::columns(slots, available);
-    let mut numbers = c.numbers;
-    let mut times = c.times;
-    let mut states = c.states;
-    if !rules::keeps_rules(head, &numbers, &times, &states, &waiters) {
+    let mut worker = columns::worker_of(&pool);
+    if !rules::keeps_rules(&worker) {
         return Stepped {
-            outcome: Outcome::Refused(Refusal::Malformed),
-            pool: pool,
+            outcome: Err(Refusal::Malformed),
+            pool,
         };
     }
-    let f = reading::frame_of(frame);
-    let a = event::call(
-        head,
-        &mut numbers,
-        &mut times,
-        &mut states,
-        &mut waiters,
-        out,
-        f,
-    );
-    let h = a.head;
-    let o = a.outcome;
-    let t = columns::rows(numbers, times, states);
-    let s = t.slots;
-    let v = t.available;
-    let next = Pool {
-        head: h,
-        slots: s,
-        available: v,
-        waiters: waiters,
-    };
+    let outcome = event::call(&mut worker, out, reading::frame_of(frame));
     Stepped {
-        outcome: o,
-        pool: next,
+        outcome,
+        pool: columns::pool_of(&worker),
     }
 }

@@ -2,88 +2,69 @@
 // does anything stand in a slot past the pool's own.
 #![tactic(auto)]
 
-ghost use Rattle.std.specs.Prelude.{◌≡◌};
+ghost use Rattle.std.specs.Prelude.{◌≡◌, ◌||◌, length, get_or};
+ghost use Rattle.definition.specs.Words.{◌<?◌};
 ghost use Rattle.definition.specs.Pool.{slot_count, queue_length};
-ghost use Rattle.slots.specs.View.{ids_in, order_in};
-ghost use Rattle.list_rules.specs.Tests.{waiter_fits, order_right, blank_from, queue_rises};
+ghost use Rattle.slot_rules.specs.Tests.{every};
+ghost use Rattle.list_rules.specs.Tests.{order_right, blank_from, queue_rises};
 
 use definition::{QUEUE, SLOTS};
-use slots::{Numbers, ORDER, States, Waiters};
-use words::both;
+use slots::Waiters;
 
 // ── the available list ──
 
 // What is listed is a slot, is checked in, and was not met before.
-pub fn order_right(states: &States, n: usize) -> bool
-    ensures { result ≡ order_right (order_in states.now) states.now n }
+pub fn order_right(available: &[u8; SLOTS], states: &[u8; SLOTS], n: usize) -> bool
+    ensures { result ≡ order_right available.now states.now n }
 {
     if SLOTS < n {
         return false;
     }
-    let mut met: [u8; SLOTS] = [0; SLOTS];
-    let mut i: usize = 0;
-    while i < n {
-        let e = words::as_index(states[ORDER + i]);
-        if SLOTS <= e {
+    let mut met = [false; SLOTS];
+    for seat in &available[..n] {
+        let e = usize::from(*seat);
+        if SLOTS <= e || states[e] != 1 || met[e] {
             return false;
         }
-        if states[e] != 1 {
-            return false;
-        }
-        if met[e] != 0 {
-            return false;
-        }
-        met[e] = 1;
-        i += 1;
+        met[e] = true;
     }
     true
 }
 
-// With no return in the loop, so that several are looked at at once.
-pub fn order_blank_from(states: &States, n: usize) -> bool
-    ensures { result ≡ blank_from slot_count n (order_in states.now) }
+// ── what stands past the first n ──
+
+// Whether each cell from n on is blank. With no return in the loop, so that several are looked at at once.
+fn blank_from<T: Copy + PartialEq>(cells: &[T], n: usize, blank: T) -> bool
+    ensures { result ≡ every (length cells.now) (λ i. i <? n || T.eq (get_or cells.now i blank) blank) }
 {
-    if SLOTS < n {
-        return true;
-    }
+    let from = n.min(cells.len());
     let mut ok = true;
-    let mut i = n;
-    while i < SLOTS {
-        if states[ORDER + i] != 0 {
-            ok = false;
-        }
-        i += 1;
+    for x in &cells[from..] {
+        ok &= *x == blank;
     }
     ok
 }
 
-// ── the slots past the maximum ──
-
-// As order_blank_from, of the slots' ids.
-pub fn ids_blank_from(numbers: &Numbers, n: usize) -> bool
-    ensures { result ≡ blank_from slot_count n (ids_in numbers.now) }
+pub fn order_blank_from(available: &[u8; SLOTS], n: usize) -> bool
+    ensures { result ≡ blank_from slot_count n available.now }
 {
-    if SLOTS < n {
-        return true;
-    }
-    let mut ok = true;
-    let mut i = n;
-    while i < SLOTS {
-        if numbers[i] != 0 {
-            ok = false;
-        }
-        i += 1;
-    }
-    ok
+    blank_from(available, n, 0)
+}
+
+// Of the slots past the maximum.
+pub fn ids_blank_from(ids: &[u32; SLOTS], n: usize) -> bool
+    ensures { result ≡ blank_from slot_count n ids.now }
+{
+    blank_from(ids, n, 0)
+}
+
+pub fn queue_blank_from(waiters: &Waiters, n: usize) -> bool
+    ensures { result ≡ blank_from queue_length n waiters.now }
+{
+    blank_from(waiters, n, 0)
 }
 
 // ── the queue ──
-
-fn waiter_fits(before: u64, id: u64, last: u64) -> bool
-    ensures { result ≡ waiter_fits before id last }
-{
-    both(before < id, id <= last)
-}
 
 // Request ids rise, the first above 0, none above the last.
 pub fn queue_rises(waiters: &Waiters, n: usize, last: u32) -> bool
@@ -92,33 +73,13 @@ pub fn queue_rises(waiters: &Waiters, n: usize, last: u32) -> bool
     if QUEUE < n {
         return false;
     }
-    let top = last as u64;
+    let top = u64::from(last);
     let mut ok = true;
     let mut before: u64 = 0;
-    let mut i: usize = 0;
-    while i < n {
-        let id = waiters[i] / 4;
-        ok = both(ok, waiter_fits(before, id, top));
+    for w in &waiters[..n] {
+        let id = *w / 4;
+        ok &= (before < id) & (id <= top);
         before = id;
-        i += 1;
-    }
-    ok
-}
-
-// As order_blank_from, of the queue.
-pub fn queue_blank_from(waiters: &Waiters, n: usize) -> bool
-    ensures { result ≡ blank_from queue_length n waiters.now }
-{
-    if QUEUE < n {
-        return true;
-    }
-    let mut ok = true;
-    let mut i = n;
-    while i < QUEUE {
-        if waiters[i] != 0 {
-            ok = false;
-        }
-        i += 1;
     }
     ok
 }

@@ -7,13 +7,12 @@ ghost use Rattle.entry.specs.Entry.{entered, entry};
 use entry::Stepped;
 use pool::Pool;
 
-pub fn once(start: Pool, frame: &[u8], out: &mut [u8]) -> Stepped
+pub fn once(mut start: Pool, frame: &[u8], out: &mut [u8]) -> Stepped
     ensures { entered result.pool out.new result.outcome ≡ entry start frame.now out.old }
 {
-    let mut p = start;
-    let a = in_place::event(&mut p, frame, out);
+    let outcome = in_place::event(&mut start, frame, out);
     Stepped {
-        outcome: a,
-        pool: p,
+        outcome,
+        pool: start,
     }
 }

@@ -1,5 +1,5 @@
 -- The making of a pool value, and its counts.
-use Rattle.std.proofs.Math.Option.{Option, none, some}
+use Rattle.std.specs.Prelude.{Option, None as none, Some as some}
 use Rattle.std.specs.Prelude.{◌-◌, replicate}
 use Rattle.definition.specs.Words.{when◌then◌else◌}
 use Rattle.definition.specs.Pool.{queue_length, slot_count, with_defaults, in_range}
@@ -7,7 +7,7 @@ use Rattle.definition.specs.declared.ConnectionState.TheVariants.{Vacant}
 use Rattle.definition.specs.declared.Options.{Options}
 use Rattle.definition.specs.declared.Refusal.{Refusal}
 use Rattle.definition.specs.declared.Refusal.TheVariants.{Malformed, OptionsOutOfRange}
-use Rattle.slots.specs.declared.Outcome.TheVariants.{Refused, Accepted}
+use Rattle.std.specs.declared.result.Result.TheVariants.{Ok, Err}
 use Rattle.refinement.specs.Alike.{fresh_head}
 use Rattle.pool.specs.declared.Slot.{Slot}
 use Rattle.pool.specs.declared.Pool.{Pool}
@@ -32,13 +32,13 @@ abbrev pub no_pool : Pool
 no_pool = fresh_pool (record { maximum = 0; minimum = 0; connecting = 0; idle = 0 })
 
 abbrev pub not_made : Refusal → Made
-not_made r = record { outcome = Refused r; pool = no_pool }
+not_made r = record { outcome = Err r; pool = no_pool }
 
 -- defaults are filled in first
 unfoldable pub making : Options → Made
 making o =
     when in_range (with_defaults o)
-    then (record { outcome = Accepted 0; pool = fresh_pool (with_defaults o) })
+    then (record { outcome = Ok 0; pool = fresh_pool (with_defaults o) })
     else not_made OptionsOutOfRange
 
 unfoldable pub making_from : Option Options → Made

@@ -1,13 +1,12 @@
 // The pool as a value: its type, its making and its counts.
 #![tactic(auto)]
 
-ghost use Rattle.std.specs.Prelude.{◌≡◌, ◌-◌};
+ghost use Rattle.std.specs.Prelude.{◌≡◌};
 ghost use Rattle.definition.specs.Bytes.{options_of};
 ghost use Rattle.refinement.specs.Alike.{fresh_head};
 ghost use Rattle.pool.specs.Making.{fresh_pool, not_made, making, making_from, counts_of};
 
 use definition::{ConnectionState, Options, PoolState, QUEUE, Refusal, SLOTS};
-use reading::Given;
 use slots::{Head, Outcome, Status, Waiters};
 
 #[derive(Clone, Copy)]
@@ -27,6 +26,7 @@ pub struct Pool {
     pub waiters: Waiters,
 }
 
+// Not a Result: a refused making gives a pool too (`refused_unusable`).
 #[derive(Clone, Copy)]
 pub struct Made {
     pub outcome: Outcome,
@@ -67,17 +67,15 @@ pub fn fresh_head(o: Options) -> Head
 fn fresh(o: Options) -> Pool
     ensures { result ≡ fresh_pool o }
 {
-    let h = fresh_head(o);
     let vacant = Slot {
         id: 0,
         generation: 0,
         time: 0,
         state: ConnectionState::Vacant,
     };
-    let slots: [Slot; SLOTS] = [vacant; SLOTS];
     Pool {
-        head: h,
-        slots: slots,
+        head: fresh_head(o),
+        slots: [vacant; SLOTS],
         available: [0; SLOTS],
         waiters: [0; QUEUE],
     }
@@ -87,25 +85,15 @@ fn fresh(o: Options) -> Pool
 fn not_made(r: Refusal) -> Made
     ensures { result ≡ not_made r }
 {
-    let p = fresh(Options {
-        maximum: 0,
-        minimum: 0,
-        connecting: 0,
-        idle: 0,
-    });
     Made {
-        outcome: Outcome::Refused(r),
-        pool: p,
+        outcome: Err(r),
+        pool: fresh(Options {
+            maximum: 0,
+            minimum: 0,
+            connecting: 0,
+            idle: 0,
+        }),
     }
-}
-
-fn minus(a: usize, b: usize) -> usize
-    ensures { result ≡ a - b }
-{
-    if a < b {
-        return 0;
-    }
-    a - b
 }
 
 impl Pool {
@@ -117,22 +105,22 @@ impl Pool {
         ensures { result ≡ making options }
     {
         let o = options::with_defaults(options);
-        if options::in_range(o) {
-            let p = fresh(o);
-            return Made {
-                outcome: Outcome::Accepted(0),
-                pool: p,
-            };
+        if !options::in_range(o) {
+            return not_made(Refusal::OptionsOutOfRange);
         }
-        not_made(Refusal::OptionsOutOfRange)
+        Made {
+            outcome: Ok(0),
+            pool: fresh(o),
+        }
     }
 
+    #[tactic(auto, unfolding(crate::specs::Making::making_from))]
     pub fn from_bytes(options: &[u8]) -> Made
         ensures { result ≡ making_from (options_of options.now) }
     {
         match reading::options_of(options) {
-            Given::Options(o) => Pool::new(o),
-            Given::Malformed => not_made(Refusal::Malformed),
+            Some(o) => Pool::new(o),
+            None => not_made(Refusal::Malformed),
         }
     }
 
@@ -140,13 +128,14 @@ impl Pool {
         ensures { result ≡ counts_of self }
     {
         let h = self.head;
-        let a = h.available_count;
-        let p = h.pending_connection_count as usize;
-        let t = h.total_connection_count as usize;
+        let total = h.total_connection_count as usize;
+        let pending = h.pending_connection_count as usize;
         Counts {
-            available: a,
-            lent: minus(minus(t, a), p),
-            pending: p,
+            available: h.available_count,
+            lent: total
+                .saturating_sub(h.available_count)
+                .saturating_sub(pending),
+            pending,
             waiting: h.waiting_count,
         }
     }

@@ -11,12 +11,11 @@ use Rattle.std.proofs.Math.Seq.{get_or-take}
 use borrow.Author.Tests.{lt-ltb, le-ltb, le-leb, eq-eqb, ne_eqb, ltb-true, leb-true, eqb-true}
 use Rattle.definition.specs.Limits.{limits_of, limits_pass}
 use Rattle.definition.specs.Booleans.{and_left, and_right, both_true, by_eq, by_lt, or_other}
-use Rattle.slots.specs.Columns.{first_at}
 use Rattle.definition.specs.Words.{when◌then◌else◌, ◌=?◌, ◌<?◌, ◌≤?◌}
 use Rattle.definition.specs.Pool.{queue_length, in_range, slot_count}
 use Rattle.definition.specs.Refusals.{most_next_id}
-use Rattle.slots.specs.declared.Head.{Head}
-use Rattle.slots.specs.View.{SlotPool, Slot, pool_of, Whole, waiter_of, ids_in, order_in, vacant, slot_in}
+use Rattle.slots.specs.declared.ConnectionPoolWorker.{ConnectionPoolWorker}
+use Rattle.slots.specs.View.{SlotPool, Slot, pool_in, Whole, waiter_of, vacant, slot_in}
 use Rattle.slots.specs.View as View
 use Rattle.slots.specs.Needs.{taken}
 use Rattle.slots.specs.Parts.{slot_at_lem}
@@ -36,45 +35,39 @@ use Rattle.rules.specs.Every.{every_all, all_every, not_among, new_among, all_of
 
 -- ── Ids ────────────────────────────────────────────────────────────────────────────────────────────────────────────────
 
-module _ (cs : List ℕ) (l : length (ids_in cs) ≡ slot_count) where
-  below_say : (next : ℕ) → ids_below cs next ≡ true → (j : ℕ) → get_or (ids_in cs) j 0 < next
+module _ (ids : List ℕ) (l : length ids ≡ slot_count) where
+  below_say : (next : ℕ) → ids_below ids next ≡ true → (j : ℕ) → get_or ids j 0 < next
   unfolding ids_below
   below_say next h j =
-      let at : (i : ℕ) → i < slot_count → get_or cs i 0 < next =
-      λ i k. ltb-true (get_or cs i 0) next (every_all slot_count (λ i. get_or cs i 0 <? next) h i k) in
+      let at : (i : ℕ) → i < slot_count → get_or ids i 0 < next =
+      λ i k. ltb-true (get_or ids i 0) next (every_all slot_count (λ i. get_or ids i 0 <? next) h i k) in
       by_lt j slot_count
-      (λ k. omega (arith, first_at cs j k, at j k))
-      (λ k. omega (arith, past (ids_in cs) 0 j (omega arith), at 0 (omega arith)))
+      (λ k. at j k)
+      (λ k. omega (arith, past ids 0 j (omega arith), at 0 (omega arith)))
 
-  below_pass : (next : ℕ) → ((j : ℕ) → get_or (ids_in cs) j 0 < next) → ids_below cs next ≡ true
+  below_pass : (next : ℕ) → ((j : ℕ) → get_or ids j 0 < next) → ids_below ids next ≡ true
   unfolding ids_below
-  below_pass next h =
-      all_every slot_count (λ i. get_or cs i 0 <? next) (λ j k. lt-ltb (get_or cs j 0) next (omega (arith, first_at cs j k, h j)))
+  below_pass next h = all_every slot_count (λ i. get_or ids i 0 <? next) (λ j k. lt-ltb (get_or ids j 0) next (h j))
 
-  new_say : ids_distinct cs ≡ true → (i j : ℕ) → i < j → j < slot_count → 0 < get_or cs j 0 → get_or cs i 0 ≡ get_or cs j 0 → ⊥
+  new_say : ids_distinct ids ≡ true → (i j : ℕ) → i < j → j < slot_count → 0 < get_or ids j 0 → get_or ids i 0 ≡ get_or ids j 0 → ⊥
   unfolding ids_distinct
   new_say h i j k low z e =
-      let x : ℕ = get_or cs j 0 in
+      let x : ℕ = get_or ids j 0 in
       let n : x ≡ 0 → ⊥ = λ q. omega arith in
-      not_among x j cs (or_other (x =? 0) (not (among x j cs)) (ne_eqb x 0 n) (every_all slot_count (new_id cs) h j low)) i k e
+      not_among x j ids (or_other (x =? 0) (not (among x j ids)) (ne_eqb x 0 n) (every_all slot_count (new_id ids) h j low)) i k e
 
-  distinct_say : ids_distinct cs ≡ true → Unique (ids_in cs)
+  distinct_say : ids_distinct ids ≡ true → Unique ids
   distinct_say h i j a b z e =
-      let x = first_at cs i (omega arith) in
-      let y = first_at cs j (omega arith) in
-      let s : get_or cs i 0 ≡ get_or cs j 0 = sym x ∙ e ∙ y in
       by_eq i j (λ q. q) (λ q. by_lt i j
-      (λ k. absurd (new_say h i j k (omega arith) (omega (arith, x)) s))
-      (λ k. absurd (new_say h j i (omega (arith, q)) (omega arith) (omega (arith, x)) (sym s))))
+      (λ k. absurd (new_say h i j k (omega arith) (omega arith) e))
+      (λ k. absurd (new_say h j i (omega (arith, q)) (omega arith) (omega arith) (sym e))))
 
-  distinct_pass : Unique (ids_in cs) → ids_distinct cs ≡ true
+  distinct_pass : Unique ids → ids_distinct ids ≡ true
   unfolding ids_distinct
-  distinct_pass u = all_every slot_count (new_id cs) (λ i k. by_eq (get_or cs i 0) 0
-      (λ z. rw (eq-eqb (get_or cs i 0) 0 z))
-      (λ z. rw (ne_eqb (get_or cs i 0) 0 z) (new_among (get_or cs i 0) i cs (λ j m e.
-      let x = first_at cs i k in
-      let y = first_at cs j (omega arith) in
-      omega (arith, u i j (omega arith) (omega arith) (omega (arith, z, x)) (x ∙ sym e ∙ sym y))))))
+  distinct_pass u = all_every slot_count (new_id ids) (λ i k. by_eq (get_or ids i 0) 0
+      (λ z. rw (eq-eqb (get_or ids i 0) 0 z))
+      (λ z. rw (ne_eqb (get_or ids i 0) 0 z) (new_among (get_or ids i 0) i ids (λ j m e.
+      omega (arith, u i j (omega arith) (omega arith) (omega (arith, z)) (sym e))))))
 
 -- ── Slots ──────────────────────────────────────────────────────────────────────────────────────────────────────────────
 
@@ -92,9 +85,9 @@ used_say id s z h =
     let f : (1 ≤? k && k ≤? 6) ≡ true = sym (fits_used id s z) ∙ h in
     (omega (arith, leb-true 1 k (and_left (1 ≤? k) (k ≤? 6) f)), leb-true k 6 (and_right (1 ≤? k) (k ≤? 6) f))
 
-module _ (h : Head) (cs ts ss ws : List ℕ) (w : Whole (pool_of h cs ts ss ws)) where
+module _ (v : ConnectionPoolWorker) (w : Whole (pool_in v)) where
   abbrev P : SlotPool
-  P = pool_of h cs ts ss ws
+  P = pool_in v
 
   -- every slot with no id is vacant; every other is in a state of a connection
   abbrev Blank : Type 0
@@ -103,38 +96,33 @@ module _ (h : Head) (cs ts ss ws : List ℕ) (w : Whole (pool_of h cs ts ss ws))
   abbrev InUse : Type 0
   InUse = (j : ℕ) → 0 < View.id_at P j → Used (View.slot_at P j)
 
-  id_of_lem : (j : ℕ) → j < slot_count → View.id_at P j ≡ get_or cs j 0
-  id_of_lem j low = first_at cs j low
-
-  state_of_lem : (j : ℕ) → j < slot_count → (View.slot_at P j).state ≡ get_or ss j 0
-  state_of_lem j low = ap (λ (s : Slot). s.state) (slot_at_lem h cs ts ss ws w j low)
+  state_of_lem : (j : ℕ) → j < slot_count → (View.slot_at P j).state ≡ get_or v.states j 0
+  state_of_lem j low = ap (λ (s : Slot). s.state) (slot_at_lem v w j low)
 
   -- what is tested of the columns is tested of the slot
-  fits_same : (j : ℕ) → j < slot_count → slot_fits_at cs ts ss j ≡ slot_fits (View.id_at P j) (View.slot_at P j)
-  fits_same j k =
-      ap (λ (x : ℕ). slot_fits x (slot_in cs ts ss j)) (sym (id_of_lem j k))
-      ∙ ap (λ (s : Slot). slot_fits (View.id_at P j) s) (sym (slot_at_lem h cs ts ss ws w j k))
+  fits_same : (j : ℕ) → j < slot_count → slot_fits_at v.ids v.generations v.times v.states j ≡ slot_fits (View.id_at P j) (View.slot_at P j)
+  fits_same j k = ap (λ (s : Slot). slot_fits (View.id_at P j) s) (sym (slot_at_lem v w j k))
 
-  fit_at : slots_fit cs ts ss ≡ true → (j : ℕ) → j < slot_count → slot_fits (View.id_at P j) (View.slot_at P j) ≡ true
+  fit_at : slots_fit v.ids v.generations v.times v.states ≡ true → (j : ℕ) → j < slot_count → slot_fits (View.id_at P j) (View.slot_at P j) ≡ true
   unfolding slots_fit
-  fit_at f j k = sym (fits_same j k) ∙ every_all slot_count (slot_fits_at cs ts ss) f j k
+  fit_at f j k = sym (fits_same j k) ∙ every_all slot_count (slot_fits_at v.ids v.generations v.times v.states) f j k
 
-  slots_blank : slots_fit cs ts ss ≡ true → Blank
+  slots_blank : slots_fit v.ids v.generations v.times v.states ≡ true → Blank
   slots_blank f j e =
       by_lt j slot_count
       (λ k. vacant_only (View.slot_at P j) (sym (fits_vacant (View.id_at P j) (View.slot_at P j) e) ∙ fit_at f j k))
       (λ k. past P.slots vacant j (omega (arith, w.slots)))
 
-  slots_used : slots_fit cs ts ss ≡ true → InUse
+  slots_used : slots_fit v.ids v.generations v.times v.states ≡ true → InUse
   slots_used f j z =
       by_lt j slot_count
       (λ k. used_say (View.id_at P j) (View.slot_at P j) z (fit_at f j k))
       (λ k. absurd (omega (arith, past P.ids 0 j (omega (arith, w.ids)))))
 
-  slots_pass : Blank → InUse → slots_fit cs ts ss ≡ true
+  slots_pass : Blank → InUse → slots_fit v.ids v.generations v.times v.states ≡ true
   unfolding slots_fit
   slots_pass b u =
-      all_every slot_count (slot_fits_at cs ts ss) (λ j k. fits_same j k ∙ by_eq (View.id_at P j) 0 (λ e. vacant_pass j e) (λ e. used_pass j (omega (arith, e))))
+      all_every slot_count (slot_fits_at v.ids v.generations v.times v.states) (λ j k. fits_same j k ∙ by_eq (View.id_at P j) 0 (λ e. vacant_pass j e) (λ e. used_pass j (omega (arith, e))))
     where
       vacant_pass : (j : ℕ) → View.id_at P j ≡ 0 → slot_fits (View.id_at P j) (View.slot_at P j) ≡ true
       vacant_pass j e = fits_vacant (View.id_at P j) (View.slot_at P j) e ∙ ap (λ (s : Slot). is_vacant s) (b j e)
@@ -146,18 +134,18 @@ module _ (h : Head) (cs ts ss ws : List ℕ) (w : Whole (pool_of h cs ts ss ws))
 
   -- ── Counts ──
 
-  states_counted : (t : Class) → how_many t ss ≡ tally (length P.ids) (kinds t P.slots)
+  states_counted : (t : Class) → how_many t v.states ≡ tally (length P.ids) (kinds t P.slots)
   states_counted t =
-      tally_same slot_count (λ i. t (get_or ss i 0)) (kinds t P.slots) (λ j k. ap t (sym (state_of_lem j k)))
+      tally_same slot_count (λ i. t (get_or v.states i 0)) (kinds t P.slots) (λ j k. ap t (sym (state_of_lem j k)))
       ∙ ap (λ (n : ℕ). tally n (kinds t P.slots)) (sym w.ids)
 
   module _ (b : Blank) where
-    how_many_lem : (t : Class) → t 0 ≡ false → how_many t ss ≡ many t P.ids P.slots
+    how_many_lem : (t : Class) → t 0 ≡ false → how_many t v.states ≡ many t P.ids P.slots
     how_many_lem t f =
         states_counted t
         ∙ sym (many_tally t P.ids P.slots (omega (arith, w.ids, w.slots)) (λ j e. ap (λ (s : Slot). t s.state) (b j e) ∙ f))
 
-    how_taken : InUse → how_many is_taken ss ≡ taken P.ids
+    how_taken : InUse → how_many is_taken v.states ≡ taken P.ids
     how_taken u = states_counted is_taken ∙ sym (taken_tally P.ids P.slots (omega (arith, w.ids, w.slots))
         (λ j e. ap (λ (s : Slot). is_taken s.state) (b j e))
         (λ j z. ap not (ne_eqb (View.slot_at P j).state 0 (λ q. omega (arith, (u j z).0)))))
@@ -165,18 +153,18 @@ module _ (h : Head) (cs ts ss ws : List ℕ) (w : Whole (pool_of h cs ts ss ws))
   -- ── The order list ──
 
   abbrev n : ℕ
-  n = h.available_count
+  n = v.head.available_count
 
   abbrev order : List ℕ
-  order = order_in ss
+  order = v.available
 
-  order_fits : order_right order ss n ≡ true → n ≤ slot_count
+  order_fits : order_right order v.states n ≡ true → n ≤ slot_count
   unfolding order_right
-  order_fits t = leb-true n slot_count (and_left (n ≤? slot_count) (every n (listed_at order ss)) t)
+  order_fits t = leb-true n slot_count (and_left (n ≤? slot_count) (every n (listed_at order v.states)) t)
 
-  order_at : order_right order ss n ≡ true → (j : ℕ) → j < n → listed_at order ss j ≡ true
+  order_at : order_right order v.states n ≡ true → (j : ℕ) → j < n → listed_at order v.states j ≡ true
   unfolding order_right
-  order_at t = every_all n (listed_at order ss) (and_right (n ≤? slot_count) (every n (listed_at order ss)) t)
+  order_at t = every_all n (listed_at order v.states) (and_right (n ≤? slot_count) (every n (listed_at order v.states)) t)
 
   order_long : n ≤ slot_count → length (take n order) ≡ n
   order_long f = length-take-le n order (omega (arith, w.available))
@@ -188,35 +176,35 @@ module _ (h : Head) (cs ts ss ws : List ℕ) (w : Whole (pool_of h cs ts ss ws))
       (λ z. absurd (omega (arith, s, ap (λ (x : Slot). x.state) (b e z))))
       (λ z. omega (arith, z))
 
-  order_listed : Blank → order_right order ss n ≡ true → All (Listed P.ids P.slots) (take n order)
+  order_listed : Blank → order_right order v.states n ≡ true → All (Listed P.ids P.slots) (take n order)
   order_listed b t =
       all_of (Listed P.ids P.slots) (take n order) (λ j k.
       let low : j < n = omega (arith, order_long (order_fits t)) in
       let e : ℕ = get_or order j 0 in
       let q = order_at t j low in
-      let r = and_right (e <? slot_count) (is_shelved (get_or ss e 0) && not (among e j order)) q in
-      let i : e < slot_count = ltb-true e slot_count (and_left (e <? slot_count) (is_shelved (get_or ss e 0) && not (among e j order)) q) in
-      let s : (View.slot_at P e).state ≡ 1 = state_of_lem e i ∙ eqb-true (get_or ss e 0) 1 (and_left (is_shelved (get_or ss e 0)) (not (among e j order)) r) in
+      let r = and_right (e <? slot_count) (is_shelved (get_or v.states e 0) && not (among e j order)) q in
+      let i : e < slot_count = ltb-true e slot_count (and_left (e <? slot_count) (is_shelved (get_or v.states e 0) && not (among e j order)) q) in
+      let s : (View.slot_at P e).state ≡ 1 = state_of_lem e i ∙ eqb-true (get_or v.states e 0) 1 (and_left (is_shelved (get_or v.states e 0)) (not (among e j order)) r) in
       rw (get_or-take n order j 0 low) (i, shelved_used b e s, s))
 
-  order_distinct : order_right order ss n ≡ true → Distinct (take n order)
+  order_distinct : order_right order v.states n ≡ true → Distinct (take n order)
   order_distinct t =
       distinct_of (take n order) (λ i j k m e.
       let low : j < n = omega (arith, order_long (order_fits t)) in
       let x : ℕ = get_or order j 0 in
-      let r = and_right (x <? slot_count) (is_shelved (get_or ss x 0) && not (among x j order)) (order_at t j low) in
-      not_among x j order (and_right (is_shelved (get_or ss x 0)) (not (among x j order)) r) i k
+      let r = and_right (x <? slot_count) (is_shelved (get_or v.states x 0) && not (among x j order)) (order_at t j low) in
+      not_among x j order (and_right (is_shelved (get_or v.states x 0)) (not (among x j order)) r) i k
       (sym (get_or-take n order i 0 (omega arith)) ∙ e ∙ get_or-take n order j 0 low))
 
-  order_pass : n ≤ slot_count → All (Listed P.ids P.slots) (take n order) → Distinct (take n order) → order_right order ss n ≡ true
+  order_pass : n ≤ slot_count → All (Listed P.ids P.slots) (take n order) → Distinct (take n order) → order_right order v.states n ≡ true
   unfolding order_right
   order_pass f al d =
-      both_true (le-leb n slot_count f) (all_every n (listed_at order ss) (λ j low.
+      both_true (le-leb n slot_count f) (all_every n (listed_at order v.states) (λ j low.
       let x : ℕ = get_or order j 0 in
       let k : j < length (take n order) = omega (arith, order_long f) in
-      let v : Listed P.ids P.slots x = rw (get_or-take n order j 0 low) at (all_at (Listed P.ids P.slots) (take n order) al j k) in
-      both_true (lt-ltb x slot_count v.0)
-      (both_true (eq-eqb (get_or ss x 0) 1 (sym (state_of_lem x v.0) ∙ v.2))
+      let here : Listed P.ids P.slots x = rw (get_or-take n order j 0 low) at (all_at (Listed P.ids P.slots) (take n order) al j k) in
+      both_true (lt-ltb x slot_count here.0)
+      (both_true (eq-eqb (get_or v.states x 0) 1 (sym (state_of_lem x here.0) ∙ here.2))
       (new_among x j order (λ i q e. distinct_has (take n order) d i j q k (get_or-take n order i 0 (omega arith) ∙ e ∙ sym (get_or-take n order j 0 low)))))))
 
 counts_say : (ss : List ℕ) (total pending available : ℕ) → counts_right ss total pending available ≡ true
@@ -321,94 +309,94 @@ record Settles (p : SlotPool) : Type 0 where
   state : state_fits p.state p.generation p.next_id p.total p.availables p.waitings ≡ true
   sited : Sited p
 
-module _ (h : Head) (cs ts ss ws : List ℕ) (w : Whole (pool_of h cs ts ss ws)) where
+module _ (v : ConnectionPoolWorker) (w : Whole (pool_in v)) where
   abbrev Q : SlotPool
-  Q = pool_of h cs ts ss ws
+  Q = pool_in v
 
   abbrev g : ℕ
-  g = h.status.generation
+  g = v.head.status.generation
 
   abbrev t : ℕ
-  t = h.clock
+  t = v.head.clock
 
   -- what is tested of the columns is said of the slot
-  dated_at_lem : (j : ℕ) → j < slot_count → View.slot_at Q j ≡ slot_in cs ts ss j
-  dated_at_lem j low = slot_at_lem h cs ts ss ws w j low
+  dated_at_lem : (j : ℕ) → j < slot_count → View.slot_at Q j ≡ slot_in v.generations v.times v.states j
+  dated_at_lem j low = slot_at_lem v w j low
 
-  dated_say : slots_dated cs ts g t ≡ true → AllDated Q
+  dated_say : slots_dated v.generations v.times g t ≡ true → AllDated Q
   unfolding slots_dated
   dated_say f j =
       by_lt j slot_count
       (λ low.
-      let of : ℕ = get_or cs (slot_count + j) 0 in
-      let since : ℕ = get_or ts j 0 in
-      let b = every_all slot_count (dated_at cs ts g t) f j low in
+      let of : ℕ = get_or v.generations j 0 in
+      let since : ℕ = get_or v.times j 0 in
+      let b = every_all slot_count (dated_at v.generations v.times g t) f j low in
       subst (Dated g t) (sym (dated_at_lem j low)) (leb-true of g (and_left (of ≤? g) (since ≤? t) b), leb-true since t (and_right (of ≤? g) (since ≤? t) b)))
       (λ high. subst (Dated g t) (sym (past Q.slots vacant j (omega (arith, w.slots)))) (omega arith, omega arith))
 
-  dated_pass : AllDated Q → slots_dated cs ts g t ≡ true
+  dated_pass : AllDated Q → slots_dated v.generations v.times g t ≡ true
   unfolding slots_dated
-  dated_pass d = all_every slot_count (dated_at cs ts g t) (λ j low.
-      let k = subst (Dated g t) (dated_at_lem j low) (d j) in both_true (le-leb (get_or cs (slot_count + j) 0) g k.0) (le-leb (get_or ts j 0) t k.1))
+  dated_pass d = all_every slot_count (dated_at v.generations v.times g t) (λ j low.
+      let k = subst (Dated g t) (dated_at_lem j low) (d j) in both_true (le-leb (get_or v.generations j 0) g k.0) (le-leb (get_or v.times j 0) t k.1))
 
   abbrev fits : Bool
   fits = state_fits Q.state Q.generation Q.next_id Q.total Q.availables Q.waitings
 
-  settled_says : is_settled h cs ts ≡ true → Settles Q
+  settled_says : is_settled v ≡ true → Settles Q
   unfolding is_settled
   settled_says b =
-      let most = h.options.maximum in
-      let few = h.total_connection_count ≤? most in
-      let spare = blank_from slot_count most (ids_in cs) in
-      let one = and_left (few && fits) (slots_dated cs ts g t && spare) b in
-      let two = and_right (few && fits) (slots_dated cs ts g t && spare) b in
+      let most = v.head.options.maximum in
+      let few = v.head.total_connection_count ≤? most in
+      let spare = blank_from slot_count most v.ids in
+      let one = and_left (few && fits) (slots_dated v.generations v.times g t && spare) b in
+      let two = and_right (few && fits) (slots_dated v.generations v.times g t && spare) b in
       record {
-        bounded = leb-true h.total_connection_count most (and_left few fits one);
+        bounded = leb-true v.head.total_connection_count most (and_left few fits one);
         state = and_right few fits one;
         sited = record {
-          spare = blank_say slot_count most (ids_in cs) w.ids (and_right (slots_dated cs ts g t) spare two);
-          dated = dated_say (and_left (slots_dated cs ts g t) spare two);
+          spare = blank_say slot_count most v.ids w.ids (and_right (slots_dated v.generations v.times g t) spare two);
+          dated = dated_say (and_left (slots_dated v.generations v.times g t) spare two);
         };
       }
 
-  settled_pass : Q.total ≤ Q.options.maximum → fits ≡ true → Sited Q → is_settled h cs ts ≡ true
+  settled_pass : Q.total ≤ Q.options.maximum → fits ≡ true → Sited Q → is_settled v ≡ true
   unfolding is_settled
   settled_pass b s k =
-      both_true (both_true (le-leb Q.total Q.options.maximum b) s) (both_true (dated_pass k.dated) (blank_pass slot_count h.options.maximum (ids_in cs) k.spare))
+      both_true (both_true (le-leb Q.total Q.options.maximum b) s) (both_true (dated_pass k.dated) (blank_pass slot_count v.head.options.maximum v.ids k.spare))
 
   -- what passes the test keeps the rules
-  pub sound : h.serial < 4294967296 → keeps_rules h cs ts ss ws ≡ true → Rules (pool_of h cs ts ss ws)
+  pub sound : v.head.serial < 4294967296 → keeps_rules v ≡ true → Rules (pool_in v)
   unfolding keeps_rules hangs_together
   sound low both =
-      let q = and_left (hangs_together h cs ts ss ws) (is_settled h cs ts) both in
-      let z = settled_says (and_right (hangs_together h cs ts ss ws) (is_settled h cs ts) both) in
-      let next = h.next_connection_id in
-      let n = h.available_count in
-      let m = h.waiting_count in
-      let t = ten (in_range h.options) (next ≤? most_next_id) (ids_below cs next) (ids_distinct cs) (slots_fit cs ts ss)
-      (counts_right ss h.total_connection_count h.pending_connection_count n)
-      (order_right (order_in ss) ss n) (blank_from slot_count n (order_in ss))
-      (queue_rises ws m h.last_request) (blank_from queue_length m ws) q in
-      let b = slots_blank h cs ts ss ws w t.4 in
-      let u = slots_used h cs ts ss ws w t.4 in
-      let c = counts_say ss h.total_connection_count h.pending_connection_count n t.5 in
+      let q = and_left (hangs_together v) (is_settled v) both in
+      let z = settled_says (and_right (hangs_together v) (is_settled v) both) in
+      let next = v.head.next_connection_id in
+      let n = v.head.available_count in
+      let m = v.head.waiting_count in
+      let t = ten (in_range v.head.options) (next ≤? most_next_id) (ids_below v.ids next) (ids_distinct v.ids) (slots_fit v.ids v.generations v.times v.states)
+      (counts_right v.states v.head.total_connection_count v.head.pending_connection_count n)
+      (order_right v.available v.states n) (blank_from slot_count n v.available)
+      (queue_rises v.waiters m v.head.last_request) (blank_from queue_length m v.waiters) q in
+      let b = slots_blank v w t.4 in
+      let u = slots_used v w t.4 in
+      let c = counts_say v.states v.head.total_connection_count v.head.pending_connection_count n t.5 in
       record {
-        limits = limits_of h.options t.0;
+        limits = limits_of v.head.options t.0;
         columns = w;
-        unique = distinct_say cs w.ids t.3;
-        below = below_say cs w.ids next t.2;
+        unique = distinct_say v.ids w.ids t.3;
+        below = below_say v.ids w.ids next t.2;
         blank = b;
         used = u;
-        fits = order_fits h cs ts ss ws w t.6;
-        listed = order_listed h cs ts ss ws w b t.6;
-        distinct = order_distinct h cs ts ss ws w t.6;
-        rest = blank_say slot_count n (order_in ss) w.available t.7;
-        shelved = sym c.2 ∙ how_many_lem h cs ts ss ws w b is_shelved refl;
-        pending = sym c.1 ∙ how_many_lem h cs ts ss ws w b is_pending refl;
-        total = sym c.0 ∙ how_taken h cs ts ss ws w b u;
-        queue = queue_fits ws m h.last_request w.waiters t.8;
-        queue_rest = blank_say queue_length m ws w.waiters t.9;
-        rises = queue_say ws m h.last_request w.waiters t.8;
+        fits = order_fits v w t.6;
+        listed = order_listed v w b t.6;
+        distinct = order_distinct v w t.6;
+        rest = blank_say slot_count n v.available w.available t.7;
+        shelved = sym c.2 ∙ how_many_lem v w b is_shelved refl;
+        pending = sym c.1 ∙ how_many_lem v w b is_pending refl;
+        total = sym c.0 ∙ how_taken v w b u;
+        queue = queue_fits v.waiters m v.head.last_request w.waiters t.8;
+        queue_rest = blank_say queue_length m v.waiters w.waiters t.9;
+        rises = queue_say v.waiters m v.head.last_request w.waiters t.8;
         serial = low;
         numbers = leb-true next (most_next_id) t.1;
         bounded = z.bounded;
@@ -417,25 +405,25 @@ module _ (h : Head) (cs ts ss ws : List ℕ) (w : Whole (pool_of h cs ts ss ws))
       }
 
   -- what keeps the rules passes the test
-  pub complete : Rules (pool_of h cs ts ss ws) → keeps_rules h cs ts ss ws ≡ true
+  pub complete : Rules (pool_in v) → keeps_rules v ≡ true
   unfolding keeps_rules hangs_together
   complete r =
-      let next = h.next_connection_id in
-      let n = h.available_count in
-      let m = h.waiting_count in
+      let next = v.head.next_connection_id in
+      let n = v.head.available_count in
+      let m = v.head.waiting_count in
       both_true (both_true
       (both_true
-      (both_true (limits_pass h.options r.limits) (le-leb next (most_next_id) r.numbers))
-      (both_true (below_pass cs w.ids next r.below)
-      (both_true (distinct_pass cs w.ids r.unique) (slots_pass h cs ts ss ws w r.blank r.used))))
+      (both_true (limits_pass v.head.options r.limits) (le-leb next (most_next_id) r.numbers))
+      (both_true (below_pass v.ids w.ids next r.below)
+      (both_true (distinct_pass v.ids w.ids r.unique) (slots_pass v w r.blank r.used))))
       (both_true
       (both_true
-      (counts_pass ss h.total_connection_count h.pending_connection_count n
-      (how_taken h cs ts ss ws w r.blank r.used ∙ sym r.total)
-      (how_many_lem h cs ts ss ws w r.blank is_pending refl ∙ sym r.pending)
-      (how_many_lem h cs ts ss ws w r.blank is_shelved refl ∙ sym r.shelved))
-      (both_true (order_pass h cs ts ss ws w r.fits r.listed r.distinct) (blank_pass slot_count n (order_in ss) r.rest)))
-      (both_true (queue_pass ws m h.last_request w.waiters r.queue r.rises) (blank_pass queue_length m ws r.queue_rest))))
+      (counts_pass v.states v.head.total_connection_count v.head.pending_connection_count n
+      (how_taken v w r.blank r.used ∙ sym r.total)
+      (how_many_lem v w r.blank is_pending refl ∙ sym r.pending)
+      (how_many_lem v w r.blank is_shelved refl ∙ sym r.shelved))
+      (both_true (order_pass v w r.fits r.listed r.distinct) (blank_pass slot_count n v.available r.rest)))
+      (both_true (queue_pass v.waiters m v.head.last_request w.waiters r.queue r.rises) (blank_pass queue_length m v.waiters r.queue_rest))))
       (settled_pass r.bounded r.state r.sited)
 
 -- ── What the test says ─────────────────────────────────────────────────────────────────────────────────────────────────
@@ -445,11 +433,11 @@ pub record Exactly (r : Bool) (p : SlotPool) : Type 0 where
   pub sound : r ≡ true → Rules p
   pub complete : Rules p → r ≡ true
 
-pub exactly : (h : Head) (cs ts ss ws : List ℕ) (r : Bool) → Whole (pool_of h cs ts ss ws) → h.serial < 4294967296
-    → r ≡ keeps_rules h cs ts ss ws → Exactly r (pool_of h cs ts ss ws)
-exactly h cs ts ss ws r w low e = record {
-  sound = λ q. sound h cs ts ss ws w low (sym e ∙ q);
-  complete = λ k. e ∙ complete h cs ts ss ws w k;
+pub exactly : (v : ConnectionPoolWorker) (r : Bool) → Whole (pool_in v) → v.head.serial < 4294967296
+    → r ≡ keeps_rules v → Exactly r (pool_in v)
+exactly v r w low e = record {
+  sound = λ q. sound v w low (sym e ∙ q);
+  complete = λ k. e ∙ complete v w k;
 }
 
 -- which is: whether p is formed

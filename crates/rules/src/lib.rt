@@ -4,107 +4,79 @@
 
 ghost use Rattle.std.specs.Prelude.{◌≡◌};
 ghost use Rattle.promises.specs.States.{state_fits};
-ghost use Rattle.slots.specs.View.{Whole, pool_of};
+ghost use Rattle.slots.specs.View.{pool_in};
 ghost use Rattle.rules.specs.Exact.{Exactly};
 ghost use Rattle.rules.specs.Tests.{hangs_together, is_settled};
 
 use definition::{MOST_NEXT_ID, PoolState};
-use slots::{Head, Numbers, States, Times, Waiters};
-use words::both;
+use slots::{ConnectionPoolWorker, Head};
 
 // What the head, the slots, the list and the queue say of each other.
-fn hangs_together(
-    head: Head,
-    numbers: &Numbers,
-    times: &Times,
-    states: &States,
-    waiters: &Waiters,
-) -> bool
-    ensures { result ≡ hangs_together head numbers.now times.now states.now waiters.now }
+#[tactic(auto, unfolding(crate::specs::Tests::hangs_together))]
+fn hangs_together(worker: &ConnectionPoolWorker) -> bool
+    ensures { result ≡ hangs_together worker.now }
 {
-    let o = head.options;
-    let next = head.next_connection_id;
-    let n = head.available_count;
-    let w = head.waiting_count;
-    let options = both(options::in_range(o), next <= MOST_NEXT_ID);
-    let below = slot_rules::ids_below(numbers, next);
-    let distinct = slot_rules::ids_distinct(numbers);
-    let fit = slot_rules::slots_fit(numbers, times, states);
-    let counts = slot_rules::counts_right(
-        states,
-        head.total_connection_count,
-        head.pending_connection_count,
-        n,
-    );
-    let order = list_rules::order_right(states, n);
-    let past = list_rules::order_blank_from(states, n);
-    let queue = list_rules::queue_rises(waiters, w, head.last_request);
-    let rest = list_rules::queue_blank_from(waiters, w);
-    both(
-        both(options, both(below, both(distinct, fit))),
-        both(both(counts, both(order, past)), both(queue, rest)),
-    )
+    let head = &worker.head;
+    options::in_range(head.options)
+        && head.next_connection_id <= MOST_NEXT_ID
+        && slot_rules::ids_below(&worker.ids, head.next_connection_id)
+        && slot_rules::ids_distinct(&worker.ids)
+        && slot_rules::slots_fit(worker)
+        && slot_rules::counts_right(
+            &worker.states,
+            head.total_connection_count,
+            head.pending_connection_count,
+            head.available_count,
+        )
+        && list_rules::order_right(&worker.available, &worker.states, head.available_count)
+        && list_rules::order_blank_from(&worker.available, head.available_count)
+        && list_rules::queue_rises(&worker.waiters, head.waiting_count, head.last_request)
+        && list_rules::queue_blank_from(&worker.waiters, head.waiting_count)
 }
 
 // What a state says of the rest of the pool.
-fn state_fits(
-    state: PoolState,
-    generation: u32,
-    next_id: u32,
-    total: u32,
-    available: usize,
-    waiting: usize,
-) -> bool
-    ensures { result ≡ state_fits state generation next_id total available waiting }
+fn state_fits(head: &Head) -> bool
+    ensures { result ≡ state_fits head.now.status.state head.now.status.generation head.now.next_connection_id head.now.total_connection_count head.now.available_count head.now.waiting_count }
 {
-    match state {
-        PoolState::New => both(
-            generation == 0,
-            both(next_id == 1, both(total == 0, waiting == 0)),
-        ),
-        PoolState::Paused(cause) => both(0 < cause, both(0 < generation, waiting == 0)),
+    match head.status.state {
+        PoolState::New => {
+            head.status.generation == 0
+                && head.next_connection_id == 1
+                && head.total_connection_count == 0
+                && head.waiting_count == 0
+        }
+        PoolState::Paused(cause) => {
+            0 < cause && 0 < head.status.generation && head.waiting_count == 0
+        }
         PoolState::Ready => true,
-        PoolState::Closed => both(available == 0, waiting == 0),
+        PoolState::Closed => head.available_count == 0 && head.waiting_count == 0,
     }
 }
 
 // What a reached pool has besides: no more connections than its maximum, all of them in slots below it; a state that fits; and no slot
 // of a generation or a time to come.
-fn is_settled(head: Head, numbers: &Numbers, times: &Times) -> bool
-    ensures { result ≡ is_settled head numbers.now times.now }
+#[tactic(auto, unfolding(crate::specs::Tests::is_settled))]
+fn is_settled(worker: &ConnectionPoolWorker) -> bool
+    ensures { result ≡ is_settled worker.now }
 {
-    let o = head.options;
-    let most = o.maximum;
-    let status = head.status;
-    let st = status.state;
-    let state = state_fits(
-        st,
-        status.generation,
-        head.next_connection_id,
-        head.total_connection_count,
-        head.available_count,
-        head.waiting_count,
-    );
-    let dated = slot_rules::slots_dated(numbers, times, status.generation, head.clock);
-    let spare = list_rules::ids_blank_from(numbers, most as usize);
-    both(
-        both(head.total_connection_count <= most, state),
-        both(dated, spare),
-    )
+    let head = &worker.head;
+    let most = head.options.maximum;
+    head.total_connection_count <= most
+        && state_fits(head)
+        && slot_rules::slots_dated(
+            &worker.generations,
+            &worker.times,
+            head.status.generation,
+            head.clock,
+        )
+        && list_rules::ids_blank_from(&worker.ids, most as usize)
 }
 
-// The structure test: whether a pool keeps every rule. That the serial fits is its type's to say.
-pub fn keeps_rules(
-    head: Head,
-    numbers: &Numbers,
-    times: &Times,
-    states: &States,
-    waiters: &Waiters,
-) -> bool
-    requires { Whole (pool_of head numbers.now times.now states.now waiters.now) }
-    ensures { Exactly result (pool_of head numbers.now times.now states.now waiters.now) }
+// The structure test: whether a pool keeps every rule.
+pub fn keeps_rules(worker: &ConnectionPoolWorker) -> bool
+    ensures { Exactly result (pool_in worker.now) }
 {
-    let shape = hangs_together(head, numbers, times, states, waiters);
-    let settled = is_settled(head, numbers, times);
-    both(shape, settled)
+    // Read, so that its type says that it fits, and the columns' types their lengths.
+    let _serial = worker.head.serial;
+    hangs_together(worker) && is_settled(worker)
 }

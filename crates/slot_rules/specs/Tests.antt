@@ -48,8 +48,8 @@ unfoldable pub slot_fits : ℕ → Slot → Bool
 slot_fits id s = when id =? 0 then is_vacant s else 1 ≤? s.state && s.state ≤? 6
 
 -- whether what the columns hold of slot i fits
-abbrev pub slot_fits_at : (numbers times states : List ℕ) → ℕ → Bool
-slot_fits_at numbers times states i = slot_fits (get_or numbers i 0) (slot_in numbers times states i)
+abbrev pub slot_fits_at : (ids generations times states : List ℕ) → ℕ → Bool
+slot_fits_at ids generations times states i = slot_fits (get_or ids i 0) (slot_in generations times states i)
 
 abbrev pub is_dated : (generation time of since : ℕ) → Bool
 is_dated generation time of since = of ≤? generation && since ≤? time
@@ -57,23 +57,23 @@ is_dated generation time of since = of ≤? generation && since ≤? time
 -- ── The rules ──────────────────────────────────────────────────────────────────────────────────────────────────────────
 
 unfoldable pub ids_below : List ℕ → ℕ → Bool
-ids_below numbers next = every slot_count (λ i. get_or numbers i 0 <? next)
+ids_below ids next = every slot_count (λ i. get_or ids i 0 <? next)
 
 -- an id that is not 0 is not among those before it
 abbrev pub new_id : List ℕ → ℕ → Bool
-new_id numbers i = get_or numbers i 0 =? 0 || not (among (get_or numbers i 0) i numbers)
+new_id ids i = get_or ids i 0 =? 0 || not (among (get_or ids i 0) i ids)
 
 unfoldable pub ids_distinct : List ℕ → Bool
-ids_distinct numbers = every slot_count (new_id numbers)
+ids_distinct ids = every slot_count (new_id ids)
 
-unfoldable pub slots_fit : List ℕ → List ℕ → List ℕ → Bool
-slots_fit numbers times states = every slot_count (slot_fits_at numbers times states)
+unfoldable pub slots_fit : (ids generations times states : List ℕ) → Bool
+slots_fit ids generations times states = every slot_count (slot_fits_at ids generations times states)
 
-abbrev pub dated_at : (numbers times : List ℕ) → (generation time : ℕ) → ℕ → Bool
-dated_at numbers times generation time i = is_dated generation time (get_or numbers (slot_count + i) 0) (get_or times i 0)
+abbrev pub dated_at : (generations times : List ℕ) → (generation time : ℕ) → ℕ → Bool
+dated_at generations times generation time i = is_dated generation time (get_or generations i 0) (get_or times i 0)
 
-unfoldable pub slots_dated : (numbers times : List ℕ) → (generation time : ℕ) → Bool
-slots_dated numbers times generation time = every slot_count (dated_at numbers times generation time)
+unfoldable pub slots_dated : (generations times : List ℕ) → (generation time : ℕ) → Bool
+slots_dated generations times generation time = every slot_count (dated_at generations times generation time)
 
 abbrev pub how_many : Class → List ℕ → ℕ
 how_many t states = tally slot_count (λ i. t (get_or states i 0))

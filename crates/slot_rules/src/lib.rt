@@ -1,112 +1,57 @@
 // The rules on slots, each one a test: ids below the next and distinct, slots that fit, counts that are right.
 #![tactic(auto)]
 
-ghost use Rattle.std.specs.Prelude.{◌≡◌, ◌&&◌, not, ◌≤◌};
+ghost use Rattle.std.specs.Prelude.{◌≡◌, Bool, ◌&&◌, not, ℕ, ◌≤◌, ◌<◌};
 ghost use Rattle.definition.specs.Pool.{slot_count};
-ghost use Rattle.definition.specs.Words.{◌=?◌, ◌<?◌};
+ghost use Rattle.definition.specs.Words.{◌=?◌};
 ghost use Rattle.slots.specs.View.{slot};
-ghost use Rattle.refinement.specs.Mirror.{is_pending};
-ghost use Rattle.refinement.specs.Rules.{is_shelved, one_if};
-ghost use Rattle.slot_rules.specs.Tests.{among, is_taken, slot_fits, is_dated, ids_below, ids_distinct, slots_fit, slots_dated, counts_right};
+ghost use Rattle.refinement.specs.Agree.{Class};
+ghost use Rattle.slot_rules.specs.Tests.{every, among, slot_fits, ids_below, ids_distinct, slots_fit, slots_dated, how_many, counts_right};
 
 use definition::SLOTS;
-use slots::{GENERATIONS, Numbers, States, Times};
-use words::both;
+use slots::ConnectionPoolWorker;
 
-// ── words ──
+// ── over the slots ──
 
-fn one_if(b: bool) -> u32
-    ensures { result ≡ one_if b }
-{
-    if b {
-        return 1;
-    }
-    0
-}
-
-fn is_taken(state: u8) -> bool
-    ensures { result ≡ is_taken state }
-{
-    !(state == 0)
-}
-
-fn is_pending(state: u8) -> bool
-    ensures { result ≡ is_pending state }
-{
-    both(5 <= state, state <= 6)
-}
-
-fn is_shelved(state: u8) -> bool
-    ensures { result ≡ is_shelved state }
-{
-    state == 1
-}
-
-// ── one cell ──
-
-fn below(x: u32, y: u32) -> bool
-    ensures { result ≡ x <? y }
-{
-    x < y
-}
-
-fn slot_fits(id: u32, generation: u32, time: u64, state: u8) -> bool
-    ensures { result ≡ slot_fits id (slot generation time state) }
-{
-    if id == 0 {
-        return both(state == 0, both(generation == 0, time == 0));
-    }
-    both(1 <= state, state <= 6)
-}
-
-// Of no later generation, and no later time.
-fn is_dated(generation: u32, time: u64, of: u32, since: u64) -> bool
-    ensures { result ≡ is_dated generation time of since }
-{
-    both(of <= generation, since <= time)
-}
-
-// ── the rules ──
-
-pub fn ids_below(numbers: &Numbers, next: u32) -> bool
-    ensures { result ≡ ids_below numbers.now next }
+// Whether each slot passes the test, by its index, since its cells stand in several columns. With no early end, so that several are
+// looked at at once.
+fn every<F: Fn(usize) -> bool>(test: F) -> bool
+    requires { (i : ℕ) → i < slot_count → F.pre test i }
+    ensures { (t : ℕ → Bool) → ((i : ℕ) (b : Bool) → i < slot_count → F.post test i b → b ≡ t i) → result ≡ every slot_count t }
 {
     let mut ok = true;
-    let mut i: usize = 0;
-    while i < SLOTS {
-        ok = both(ok, below(numbers[i], next));
-        i += 1;
+    for i in 0..SLOTS {
+        ok &= test(i);
     }
     ok
 }
 
-// Whether x stands among the first n ids.
-fn is_among(numbers: &Numbers, n: usize, x: u32) -> bool
-    requires { n ≤ slot_count }
-    ensures { result ≡ among x n numbers.now }
+// How many slots are in a state that passes the test. No more than a u8 holds, so that many are counted at once.
+fn how_many<F: Fn(u8) -> bool>(states: &[u8; SLOTS], test: F) -> u8
+    requires { F.IsAlwaysCallable test }
+    ensures { (t : Class) → ((k : ℕ) (b : Bool) → F.post test k b → b ≡ t k) → result ≡ how_many t states.now }
 {
-    let mut i: usize = 0;
-    while i < n {
-        if numbers[i] == x {
-            return true;
-        }
-        i += 1;
+    let mut n: u8 = 0;
+    for state in states {
+        n += u8::from(test(*state));
     }
-    false
+    n
+}
+
+// ── the rules ──
+
+pub fn ids_below(ids: &[u32; SLOTS], next: u32) -> bool
+    ensures { result ≡ ids_below ids.now next }
+{
+    every(|i| ids[i] < next)
 }
 
 // Whether the id x stands among the first n, where a mark says that it may.
-fn clashes(numbers: &Numbers, n: usize, x: u32, mark: u8) -> bool
+fn clashes(ids: &[u32; SLOTS], n: usize, x: u32, mark: bool) -> bool
     requires { n ≤ slot_count }
-    ensures { result ≡ not (mark =? 0) && (not (x =? 0) && among x n numbers.now) }
+    ensures { result ≡ mark && (not (x =? 0) && among x n ids.now) }
 {
-    if mark == 0 {
-        return false;
-    }
-    if x == 0 {
-        return false;
-    }
-    is_among(numbers, n, x)
+    mark && x != 0 && ids[..n].contains(&x)
 }
 
 // Four marks for each slot: two ids seldom meet at one.
@@ -115,72 +60,63 @@ const MARKS: usize = 4 * SLOTS;
 const REMAINDERS: u32 = MARKS as u32;
 
 // A mark for each remainder: only where one is met again are the ids before looked through.
-pub fn ids_distinct(numbers: &Numbers) -> bool
-    ensures { result ≡ ids_distinct numbers.now }
+pub fn ids_distinct(ids: &[u32; SLOTS]) -> bool
+    ensures { result ≡ ids_distinct ids.now }
 {
-    let mut marks: [u8; MARKS] = [0; MARKS];
-    let mut i: usize = 0;
-    while i < SLOTS {
-        let x = numbers[i];
-        let h = (x % REMAINDERS) as usize;
-        let mark = marks[h];
-        if clashes(numbers, i, x, mark) {
+    let mut marks = [false; MARKS];
+    for (i, x) in ids.iter().enumerate() {
+        let h = (*x % REMAINDERS) as usize;
+        if clashes(ids, i, *x, marks[h]) {
             return false;
         }
-        marks[h] = 1;
-        i += 1;
+        marks[h] = true;
     }
     true
 }
 
 // A slot without an id is vacant, a slot with one is not.
-pub fn slots_fit(numbers: &Numbers, times: &Times, states: &States) -> bool
-    ensures { result ≡ slots_fit numbers.now times.now states.now }
+fn slot_fits(id: u32, generation: u32, time: u64, state: u8) -> bool
+    ensures { result ≡ slot_fits id (slot generation time state) }
 {
-    let mut ok = true;
-    let mut i: usize = 0;
-    while i < SLOTS {
-        ok = both(
-            ok,
-            slot_fits(numbers[i], numbers[GENERATIONS + i], times[i], states[i]),
-        );
-        i += 1;
+    if id == 0 {
+        (state == 0) & (generation == 0) & (time == 0)
+    } else {
+        (1 <= state) & (state <= 6)
     }
-    ok
+}
+
+pub fn slots_fit(worker: &ConnectionPoolWorker) -> bool
+    ensures { result ≡ slots_fit worker.now.ids worker.now.generations worker.now.times worker.now.states }
+{
+    every(|i| {
+        slot_fits(
+            worker.ids[i],
+            worker.generations[i],
+            worker.times[i],
+            worker.states[i],
+        )
+    })
 }
 
 // No slot is of a later generation than the pool, or of a later time. A vacant one is of 0.
-pub fn slots_dated(numbers: &Numbers, times: &Times, generation: u32, time: u64) -> bool
-    ensures { result ≡ slots_dated numbers.now times.now generation time }
+pub fn slots_dated(
+    generations: &[u32; SLOTS],
+    times: &[u64; SLOTS],
+    generation: u32,
+    time: u64,
+) -> bool
+    ensures { result ≡ slots_dated generations.now times.now generation time }
 {
-    let mut ok = true;
-    let mut i: usize = 0;
-    while i < SLOTS {
-        ok = both(
-            ok,
-            is_dated(generation, time, numbers[GENERATIONS + i], times[i]),
-        );
-        i += 1;
-    }
-    ok
+    every(|i| (generations[i] <= generation) & (times[i] <= time))
 }
 
-pub fn counts_right(states: &States, total: u32, pending: u32, available: usize) -> bool
+pub fn counts_right(states: &[u8; SLOTS], total: u32, pending: u32, available: usize) -> bool
     ensures { result ≡ counts_right states.now total pending available }
 {
-    let mut taken: u32 = 0;
-    let mut waits: u32 = 0;
-    let mut shelved: u32 = 0;
-    let mut i: usize = 0;
-    while i < SLOTS {
-        let k = states[i];
-        taken = taken + one_if(is_taken(k));
-        waits = waits + one_if(is_pending(k));
-        shelved = shelved + one_if(is_shelved(k));
-        i += 1;
-    }
-    both(
-        taken == total,
-        both(waits == pending, shelved as usize == available),
-    )
+    let taken = how_many(states, |k| k != 0);
+    let waits = how_many(states, |k| (5 <= k) & (k <= 6));
+    let shelved = how_many(states, |k| k == 1);
+    (u32::from(taken) == total)
+        & (u32::from(waits) == pending)
+        & (usize::from(shelved) == available)
 }

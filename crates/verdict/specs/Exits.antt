@@ -1,62 +1,148 @@
 -- One law for each exit: what the code knows there gives the answer of the tests.
-use Rattle.std.specs.Prelude.{◌≡◌, Bool, List, ℕ, ◌%◌, ◌≤◌, ◌<◌, length, get_or}
+use Rattle.std.specs.Prelude.{◌≡◌, ◌⊎◌, ◌&&◌, refl, Bool, true, false, List, ℕ, ◌%◌, ◌≤◌, ◌<◌, length, get_or}
 use Rattle.std.proofs.Math.Path.{sym}
-use Rattle.std.proofs.Common.{ap, ◌∙◌, arith}
+use Rattle.std.proofs.Common.{inl, inr, subst, ap, ◌∙◌, arith, leb-true, leb-false}
 use Rattle.std.proofs.Math.ListN.{get_or-eq_default}
-use borrow.Author.Tests.{le-leb, lt-leb, lt-ltb, le-ltb}
-use Rattle.definition.specs.Words.{when◌then◌else◌}
+use borrow.Author.Tests.{le-leb, lt-leb, lt-ltb, le-ltb, ne_eqb}
+use Rattle.definition.specs.Words.{when◌then◌else◌, ◌<?◌}
 use Rattle.definition.specs.Pool.{slot_count}
-use Rattle.definition.specs.Refusals.{first}
+use Rattle.definition.specs.Refusals.{first, wrong_time}
+use Rattle.definition.specs.Steps.{◌to◌holds◌}
 use Rattle.definition.specs.declared.Event.{Event}
-use Rattle.definition.specs.declared.Event.TheVariants.{CheckOut, WarmPool, Abandon, CheckIn, Succeeded, SucceededForPool, Failed, Pin, ReturnToPinner, TakeFromPinner}
+use Rattle.definition.specs.declared.Event.TheVariants.{CheckOut, WarmPool, Clear, MarkAsReady, Maintenance, FillPool, Close}
 use Rattle.definition.specs.declared.Refusal.{Refusal}
-use Rattle.definition.specs.declared.Refusal.TheVariants.{WrongState, WrongTime, NotWaiting}
-use Rattle.slots.specs.Call.{slot_of, state_of, time_of, waiter_of?, kind_tests, or_accept, no_target, target, tests, verdict}
-use Rattle.slots.specs.Order.{place_of, slot_holding}
+use Rattle.definition.specs.declared.Refusal.TheVariants.{WrongState, WrongTime, NotWaiting, AlreadyPinned}
+use Rattle.slots.specs.Call.{slot_of, state_of, time_of, kind_tests, or_accept, no_target, target, tests, verdict}
+use Rattle.slots.specs.Order.{place_of}
 use Rattle.slots.specs.Parts.{slots_at}
-use Rattle.slots.specs.View.{SlotPool, Slot, vacant, ids_in, slots_of}
+use Rattle.slots.specs.View.{SlotPool, Slot, vacant, slots_of, slot_at, Whole, pool_in}
+use Rattle.slots.specs.declared.ConnectionPoolWorker.{ConnectionPoolWorker}
 use Rattle.slots.specs.declared.Status.{Status}
-use Rattle.slots.specs.declared.Verdict.{Verdict}
-use Rattle.slots.specs.declared.Verdict.TheVariants.{Refuse, Accept}
+use Rattle.slots.specs.Outcome.{Verdict}
+use Rattle.std.specs.declared.result.Result.TheVariants.{Ok, Err}
+use Rattle.std.specs.declared.result.Result.{Result}
 use Rattle.common_tests.specs.Tests.{common_tests, common_verdict}
 use Rattle.common_tests.specs.Laws.{common_refused, common_passed}
-use Rattle.common_tests.specs.declared.Common.{Common}
-use Rattle.common_tests.specs.declared.Common.TheVariants.{Refuse, Pass}
-use Rattle.verdict.specs.Look.{Looks, request_list, abandon_list, state_list, time_list, pin_list, kind_verdict}
-use Rattle.verdict.specs.Laws.{one_state, first_of, first_by}
+use Rattle.verdict.specs.Look.{found, Looks, in_states, request_list, abandon_list, state_list, time_list, pin_list, kind_verdict}
+use Rattle.verdict.specs.Laws.{outside, first_of, first_by}
 use Rattle.verdict.specs.declared.Found.{Found}
 
 -- ── A lookup ───────────────────────────────────────────────────────────────────────────────────────────────────────────
 
-abbrev pub found : (at state time : ℕ) → Found
-found i s t = record { at = i; state = s; time = t }
+abbrev what : ℕ → ℕ → ℕ → Found
+what i s t = record { at = i; state = s; time = t }
 
-module _ (numbers times states : List ℕ) (id : ℕ) {i : ℕ} (w : length (slots_of numbers times states) ≡ slot_count)
-    (e : i ≡ slot_holding id (ids_in numbers)) where
-  pub look_found : i < slot_count → Looks (ids_in numbers) (slots_of numbers times states) id (found i (get_or states i 0) (get_or times i 0))
+module _ (w : ConnectionPoolWorker) (whole : Whole (pool_in w)) (id : ℕ) {i : ℕ} (e : i ≡ slot_of (pool_in w) id) where
+  pub look_found : i < slot_count → Looks (pool_in w) id (Ok (what i (get_or w.states i 0) (get_or w.times i 0)))
   look_found low =
-      let s = slots_at numbers times states w i low in
-      record { at = e; state = sym (ap (λ (x : Slot). x.state) s); time = sym (ap (λ (x : Slot). x.time) s) }
+      let s = slots_at w.generations w.times w.states whole.slots i low in
+      (subst (λ (x : ℕ). what i (get_or w.states i 0) (get_or w.times i 0) ≡ what x (slot_at (pool_in w) x).state (slot_at (pool_in w) x).time) e (ap (λ (x : Slot). what i x.state x.time) (sym s)), subst (λ (x : ℕ). x < slot_count) e low)
 
-  pub look_missed : slot_count ≤ i → Looks (ids_in numbers) (slots_of numbers times states) id (found i 0 0)
+  pub look_missed : slot_count ≤ i → Looks (pool_in w) id (Err WrongState)
   look_missed high =
-      let s = get_or-eq_default (slots_of numbers times states) vacant {n = i} (omega (arith, w)) in
-      record { at = e; state = sym (ap (λ (x : Slot). x.state) s); time = sym (ap (λ (x : Slot). x.time) s) }
+      (refl, subst (λ (x : ℕ). slot_count ≤ x) e high, subst (λ (x : ℕ). (slot_at (pool_in w) x).state ≡ 0) e (ap (λ (x : Slot). x.state) (get_or-eq_default (slots_of w.generations w.times w.states) vacant {n = i} (omega (arith, whole.slots, high)))))
+
+module _ (P : SlotPool) (id : ℕ) where
+  -- ── A state ──────────────────────────────────────────────────────────────────────────────────────────────────────────
+
+  module _ (low high : ℕ) where
+    pub in_missed : 0 < low → {r : Refusal} → Looks P id (Err r) → Err r ≡ in_states P id low high
+    unfolding when◌then◌else◌
+    in_missed pos h = rw (h.0, h.2, lt-leb low 0 pos)
+
+    module _ {f : Found} (h : Looks P id (Ok f)) where
+      pub in_found : low ≤ f.state → f.state ≤ high → Ok f ≡ in_states P id low high
+      unfolding when◌then◌else◌
+      in_found a b = let e = h.0 in rw (e, le-leb low _ (rw e at a), le-leb _ high (rw e at b))
+
+      pub in_other : (low ≤ f.state → f.state ≤ high → ⊥) → Err WrongState ≡ in_states P id low high
+      unfolding when◌then◌else◌
+      in_other n = let e = h.0 in rw (outside low high (state_of P id) (rw e at n))
+
+    -- what is known of the one in a state of the range, and where there is none
+    states_ok : {f : Found} → Ok f ≡ in_states P id low high → (f ≡ found P id) × ((low to high holds state_of P id) ≡ true)
+    unfolding when◌then◌else◌
+    states_ok {f} q = go (low to high holds state_of P id) q
+      where
+        go : (b : Bool) → Ok f ≡ when b then Ok (found P id) else Err WrongState → (f ≡ found P id) × (b ≡ true)
+        go true h = (cc, refl)
+        go false h = let z : ◌≡◌ {A = ℕ} 0 1 = cc in absurd (omega arith)
+
+    states_err : {r : Refusal} → Err r ≡ in_states P id low high → (r ≡ WrongState) × ((low to high holds state_of P id) ≡ false)
+    unfolding when◌then◌else◌
+    states_err {r} q = go (low to high holds state_of P id) q
+      where
+        go : (b : Bool) → Err r ≡ when b then Ok (found P id) else Err WrongState → (r ≡ WrongState) × (b ≡ false)
+        go true h = let z : ◌≡◌ {A = ℕ} 0 1 = cc in absurd (omega arith)
+        go false h = (cc, refl)
+
+    abbrev stated : Verdict
+    stated = or_accept (slot_of P id) (first (state_list (state_of P id) low high))
+
+    pub state_wrong : {r : Refusal} → Err r ≡ in_states P id low high → Err r ≡ stated
+    unfolding first when◌then◌else◌
+    state_wrong h = let k = states_err h in rw (k.0, k.1)
+
+    pub state_right : {f : Found} → Ok f ≡ in_states P id low high → Ok f.at ≡ stated
+    unfolding first when◌then◌else◌
+    state_right h = let k = states_ok h in rw (k.0, k.1)
+
+    -- ── A state, and a time ────────────────────────────────────────────────────────────────────────────────────────────
+
+    module _ (second now : ℕ) where
+      abbrev timed : Verdict
+      timed = or_accept (slot_of P id) (first (time_list (state_of P id) low high second (time_of P id) now))
+
+      pub timed_other : {r : Refusal} → Err r ≡ in_states P id low high → Err r ≡ timed
+      unfolding first when◌then◌else◌
+      timed_other h = let k = states_err h in rw (k.0, k.1)
+
+      module _ {f : Found} (h : Ok f ≡ in_states P id low high) where
+        pub timed_wrong : wrong_time second f.time now ≡ true → Err WrongTime ≡ timed
+        unfolding first when◌then◌else◌
+        timed_wrong q = let k = states_ok h in rw (k.1, rw k.0 at q)
+
+        pub timed_right : wrong_time second f.time now ≡ false → Ok f.at ≡ timed
+        unfolding first when◌then◌else◌
+        timed_right q = let k = states_ok h in rw (k.0, k.1, rw k.0 at q)
+
+  -- ── A pin ────────────────────────────────────────────────────────────────────────────────────────────────────────────
+
+  abbrev pinned : Verdict
+  pinned = or_accept (slot_of P id) (first (pin_list (state_of P id)))
+
+  pub pin_missed : {r : Refusal} → Looks P id (Err r) → Err r ≡ pinned
+  unfolding first when◌then◌else◌
+  pin_missed h = rw (h.0, h.2)
+
+  module _ {f : Found} (h : Looks P id (Ok f)) where
+    pub pin_right : f.state ≡ 2 → Ok f.at ≡ pinned
+    unfolding first when◌then◌else◌
+    pin_right q = let e = h.0 in rw (e, rw e at q)
+
+    pub pin_again : 3 ≤ f.state → f.state ≤ 4 → Err AlreadyPinned ≡ pinned
+    unfolding first when◌then◌else◌
+    pin_again a b = let e = h.0 in rw (le-leb 3 _ (rw e at a), le-leb _ 4 (rw e at b))
+
+    pub pin_other : (2 ≤ f.state → f.state ≤ 4 → ⊥) → Err WrongState ≡ pinned
+    unfolding first when◌then◌else◌
+    pin_other n =
+        let k : 2 ≤ state_of P id → state_of P id ≤ 4 → ⊥ = let e = h.0 in rw e at n in
+        rw (outside 3 4 (state_of P id) (λ a b. k (omega (arith, a)) b), ne_eqb (state_of P id) 2 (λ q. k (omega (arith, q)) (omega (arith, q))))
 
 -- ── The verdict, by what the shared tests say ──────────────────────────────────────────────────────────────────────────
 
-module _ (p : SlotPool) (e : Event) (now : ℕ) (m : Status) (s : m.state ≡ p.state) (g : m.generation ≡ p.generation)
-    {o : Common} (c : o ≡ common_verdict p.clock p.next_id m now e) where
-  pub verdict_by : {r : Refusal} → o ≡ Refuse r → Refuse r ≡ verdict p e now
+module _ (p : SlotPool) (e : Event) (now : ℕ) (m : Status) (s : m.state ≡ p.state) (g : m.generation ≡ p.generation) where
+  pub verdict_by : {r : Refusal} → Err r ≡ common_verdict p.clock p.next_id m now e → Err r ≡ verdict p e now
   unfolding common_verdict verdict tests
-  verdict_by {r} h =
-      let k = rw (s, g) at (common_refused (first (common_tests p.clock p.next_id m now e)) r (sym c ∙ h)) in
+  verdict_by {r} c =
+      let k = rw (s, g) at (common_refused (first (common_tests p.clock p.next_id m now e)) r (sym c)) in
       sym (ap (or_accept (target p e)) (first_by _ _ _ _ (kind_tests p e now) r k))
 
-  pub verdict_open : {v : Verdict} → o ≡ Pass → v ≡ kind_verdict p e now → v ≡ verdict p e now
+  pub verdict_open : {v : Verdict} → Ok tt ≡ common_verdict p.clock p.next_id m now e → v ≡ kind_verdict p e now → v ≡ verdict p e now
   unfolding common_verdict kind_verdict verdict tests
-  verdict_open h d =
-      let k = rw (s, g) at (common_passed (first (common_tests p.clock p.next_id m now e)) (sym c ∙ h)) in
+  verdict_open c d =
+      let k = rw (s, g) at (common_passed (first (common_tests p.clock p.next_id m now e)) (sym c)) in
       d ∙ sym (ap (or_accept (target p e)) (first_of _ _ _ _ (kind_tests p e now) k))
 
 -- ── A waiter ───────────────────────────────────────────────────────────────────────────────────────────────────────────
@@ -65,100 +151,32 @@ module _ (waiters : List ℕ) (waiting id : ℕ) {k : ℕ} (e : k ≡ place_of i
   abbrev waits : Verdict
   waits = or_accept (place_of id waiting waiters) (first (abandon_list waiters waiting id))
 
-  pub still_waits : k < waiting → get_or waiters k 0 % 4 < 2 → Accept k ≡ waits
+  pub still_waits : k < waiting → get_or waiters k 0 % 4 < 2 → Ok k ≡ waits
   unfolding first when◌then◌else◌
   still_waits h g = rw (← e, lt-ltb k waiting h, lt-ltb (get_or waiters k 0 % 4) 2 g)
 
-  pub was_abandoned : k < waiting → 2 ≤ get_or waiters k 0 % 4 → Refuse NotWaiting ≡ waits
+  pub was_abandoned : k < waiting → 2 ≤ get_or waiters k 0 % 4 → Err NotWaiting ≡ waits
   unfolding first when◌then◌else◌
   was_abandoned h g = rw (← e, lt-ltb k waiting h, le-ltb (get_or waiters k 0 % 4) 2 g)
 
-  pub never_waits : waiting ≤ k → Refuse NotWaiting ≡ waits
+  pub never_waits : waiting ≤ k → Err NotWaiting ≡ waits
   unfolding first when◌then◌else◌
   never_waits h = rw (← e, le-ltb k waiting h)
 
--- ── A state, and a time ────────────────────────────────────────────────────────────────────────────────────────────────
+-- ── The tests of one kind, where several share them ────────────────────────────────────────────────────────────────────
 
-module _ (at state low high second last now : ℕ) where
-  abbrev timed : Verdict
-  timed = or_accept at (first (time_list state low high second last now))
-
-  pub time_below : state < low → Refuse WrongState ≡ timed
-  unfolding first when◌then◌else◌
-  time_below a = rw (lt-leb low state a)
-
-  module _ (a : low ≤ state) where
-    pub time_above : high < state → Refuse WrongState ≡ timed
-    unfolding first when◌then◌else◌
-    time_above b = rw (le-leb low state a, lt-leb state high b)
-
-    module _ (b : state ≤ high) where
-      pub time_later : now < second → Refuse WrongTime ≡ timed
-      unfolding first when◌then◌else◌
-      time_later c = rw (le-leb low state a, le-leb state high b, lt-ltb now second c)
-
-      pub time_earlier : second ≤ now → second < last → Refuse WrongTime ≡ timed
-      unfolding first when◌then◌else◌
-      time_earlier c d = rw (le-leb low state a, le-leb state high b, le-ltb now second c, lt-ltb second last d)
-
-      pub time_right : second ≤ now → last ≤ second → Accept at ≡ timed
-      unfolding first when◌then◌else◌
-      time_right c d = rw (le-leb low state a, le-leb state high b, le-ltb now second c, le-ltb second last d)
-
--- ── The tests of one kind ──────────────────────────────────────────────────────────────────────────────────────────────
-
-module _ (p : SlotPool) (e : Event) (now : ℕ) {r : Verdict} where
-  pub of_check_out : {n : ℕ} → e ≡ CheckOut n
-      → r ≡ or_accept no_target (first (request_list p.last_request p.waitings n)) → r ≡ kind_verdict p e now
+module _ (p : SlotPool) (e : Event) (now : ℕ) where
+  pub of_request : {v : Verdict} {n : ℕ} → (e ≡ CheckOut n) ⊎ (e ≡ WarmPool n)
+      → v ≡ or_accept no_target (first (request_list p.last_request p.waitings n)) → v ≡ kind_verdict p e now
   unfolding kind_verdict
-  of_check_out h d = rw h d
+  of_request (inl h) d = rw h d
+  of_request (inr h) d = rw h d
 
-  pub of_warm_pool : {n : ℕ} → e ≡ WarmPool n
-      → r ≡ or_accept no_target (first (request_list p.last_request p.waitings n)) → r ≡ kind_verdict p e now
-  unfolding kind_verdict
-  of_warm_pool h d = rw h d
-
-  pub of_abandon : {n : ℕ} → e ≡ Abandon n
-      → r ≡ or_accept (waiter_of? p n) (first (abandon_list p.waiters p.waitings n)) → r ≡ kind_verdict p e now
-  unfolding kind_verdict
-  of_abandon h d = rw h d
-
-  -- of an event that names a connection: what was looked up
-  module _ {id : ℕ} (f : Found) (l : Looks p.ids p.slots id f) where
-    in_states : (low high : ℕ) → r ≡ or_accept f.at (first (state_list f.state low high))
-        → r ≡ or_accept (slot_of p id) (first (state_list (state_of p id) low high))
-    in_states low high d = d ∙ rw (l.state, l.at)
-
-    in_times : (low high second : ℕ) → r ≡ or_accept f.at (first (time_list f.state low high second f.time now))
-        → r ≡ or_accept (slot_of p id) (first (time_list (state_of p id) low high second (time_of p id) now))
-    in_times low high second d = d ∙ rw (l.state, l.time, l.at)
-
-    pub of_check_in : {errored executing : Bool} {t : ℕ} → e ≡ CheckIn id errored executing t
-        → r ≡ or_accept f.at (first (time_list f.state 2 4 t f.time now)) → r ≡ kind_verdict p e now
-    unfolding kind_verdict
-    of_check_in {t = t} h d = rw h (in_times 2 4 t d)
-
-    pub of_succeeded : e ≡ Succeeded id → r ≡ or_accept f.at (first (state_list f.state 5 5)) → r ≡ kind_verdict p e now
-    unfolding kind_verdict
-    of_succeeded h d = rw (h, one_state) (in_states 5 5 d)
-
-    pub of_succeeded_for_pool : {t : ℕ} → e ≡ SucceededForPool id t
-        → r ≡ or_accept f.at (first (time_list f.state 6 6 t f.time now)) → r ≡ kind_verdict p e now
-    unfolding kind_verdict
-    of_succeeded_for_pool {t} h d = rw (h, one_state) (in_times 6 6 t d)
-
-    pub of_failed : e ≡ Failed id → r ≡ or_accept f.at (first (state_list f.state 5 6)) → r ≡ kind_verdict p e now
-    unfolding kind_verdict
-    of_failed h d = rw h (in_states 5 6 d)
-
-    pub of_pin : e ≡ Pin id → r ≡ or_accept f.at (first (pin_list f.state)) → r ≡ kind_verdict p e now
-    unfolding kind_verdict
-    of_pin h d = rw h (d ∙ rw (l.state, l.at))
-
-    pub of_return : e ≡ ReturnToPinner id → r ≡ or_accept f.at (first (state_list f.state 3 3)) → r ≡ kind_verdict p e now
-    unfolding kind_verdict
-    of_return h d = rw (h, one_state) (in_states 3 3 d)
-
-    pub of_take : e ≡ TakeFromPinner id → r ≡ or_accept f.at (first (state_list f.state 3 4)) → r ≡ kind_verdict p e now
-    unfolding kind_verdict
-    of_take h d = rw h (in_states 3 4 d)
+  pub of_no_target : ((timeout : Bool) × (cause : ℕ) × (e ≡ Clear timeout cause)) ⊎ ((e ≡ MarkAsReady) ⊎ ((e ≡ Maintenance) ⊎ ((e ≡ FillPool) ⊎ (e ≡ Close))))
+      → Ok no_target ≡ kind_verdict p e now
+  unfolding kind_verdict first
+  of_no_target (inl (t, c, h)) = rw h
+  of_no_target (inr (inl h)) = rw h
+  of_no_target (inr (inr (inl h))) = rw h
+  of_no_target (inr (inr (inr (inl h)))) = rw h
+  of_no_target (inr (inr (inr (inr h)))) = rw h

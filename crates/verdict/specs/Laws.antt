@@ -1,7 +1,7 @@
 -- What the exits rest on: states as ranges, and tests in two groups.
 use Rattle.std.specs.Prelude.{◌≡◌, refl, Bool, true, false, ◌&&◌, List, [], ◌∷◌, ℕ, ◌≤◌}
 use Rattle.std.proofs.Common.{sym, ◌∙◌, true≢false, arith, le-leb, eq-eqb, leb-true, leb-false, eqb-true}
-use Rattle.std.proofs.Math.Option.{none, some}
+use Rattle.std.specs.Prelude.{None as none, Some as some}
 use Rattle.definition.specs.Words.{when◌then◌else◌, ◌≤?◌, ◌=?◌}
 use Rattle.definition.specs.Steps.{◌to◌holds◌}
 use Rattle.definition.specs.Refusals.{Test, ◌if◌, first}
@@ -20,16 +20,12 @@ one_state k s = go (s =? k) refl
         below true p false q = refl
         below false p y q = refl
 
--- neither 3 nor 4
-pub not_pinned : (s : ℕ) → (s ≡ 3 → ⊥) → (s ≡ 4 → ⊥) → (3 to 4 holds s) ≡ false
-not_pinned s a b = go (3 ≤? s) refl (s ≤? 4) refl
+-- outside a range
+pub outside : (low high s : ℕ) → (low ≤ s → s ≤ high → ⊥) → (low to high holds s) ≡ false
+outside low high s n = go (low ≤? s) refl (s ≤? high) refl
   where
-    go : (x : Bool) → (3 ≤? s) ≡ x → (y : Bool) → (s ≤? 4) ≡ y → (x && y) ≡ false
-    go true p true q = absurd (pick (s ≤? 3) refl (leb-true 3 s p) (leb-true s 4 q))
-      where
-        pick : (z : Bool) → (s ≤? 3) ≡ z → 3 ≤ s → s ≤ 4 → ⊥
-        pick true e l h = a (omega (arith, leb-true s 3 e))
-        pick false e l h = b (omega (arith, leb-false s 3 e))
+    go : (x : Bool) → (low ≤? s) ≡ x → (y : Bool) → (s ≤? high) ≡ y → (x && y) ≡ false
+    go true p true q = absurd (n (leb-true low s p) (leb-true s high q))
     go true p false q = refl
     go false p y q = refl
 

@@ -1,22 +1,21 @@
 // What the tests say of an event: refused, or at which slot or waiter.
 #![tactic(auto)]
 
-ghost use Rattle.std.specs.Prelude.{◌≡◌, ◌≤◌, length};
-ghost use Rattle.definition.specs.Pool.{slot_count, queue_length};
+ghost use Rattle.std.specs.Prelude.{◌≡◌, ◌≤◌, ◌<◌};
+ghost use Rattle.definition.specs.Pool.{queue_length};
 ghost use Rattle.definition.specs.Refusals.{first};
 ghost use Rattle.slots.specs.Order.{place_of};
-ghost use Rattle.slots.specs.View.{ids_in, slots_of, pool_of, Whole};
-ghost use Rattle.slots.specs.Call.{or_accept, no_target, verdict};
-ghost use Rattle.verdict.specs.Look.{Looks, request_list, abandon_list, state_list, time_list, pin_list, kind_verdict};
+ghost use Rattle.slots.specs.View.{pool_in};
+ghost use Rattle.slots.specs.Call.{slot_of, state_of, time_of, or_accept, no_target, verdict};
+ghost use Rattle.verdict.specs.Look.{Looks, in_states, request_list, abandon_list, state_list, time_list, pin_list, kind_verdict};
 
-use common_tests::Common;
 use definition::{Event, QUEUE, Refusal, SLOTS};
-use slots::{Head, Numbers, States, Times, Verdict, Waiters};
+use slots::{ConnectionPoolWorker, Verdict, Waiters};
 
 // What an event is accepted with that names neither a slot nor a waiter.
 const NO_TARGET: usize = 0;
 
-// The slot of an id, the count of slots where it has none, and what stands there.
+// The slot of an id, and what stands there.
 #[derive(Clone, Copy)]
 pub struct Found {
     pub at: usize,
@@ -24,23 +23,19 @@ pub struct Found {
     pub time: u64,
 }
 
-pub fn look(numbers: &Numbers, times: &Times, states: &States, id: u32) -> Found
-    requires { length (slots_of numbers.now times.now states.now) ≡ slot_count }
-    ensures { Looks (ids_in numbers.now) (slots_of numbers.now times.now states.now) id result }
+// An id that no slot has is refused as one in a wrong state.
+pub fn look(worker: &ConnectionPoolWorker, id: u32) -> Result<Found, Refusal>
+    ensures { Looks (pool_in worker.now) id result }
 {
-    let i = table::find(numbers, id);
+    let i = table::find(&worker.ids, id);
     if i < SLOTS {
-        return Found {
+        return Ok(Found {
             at: i,
-            state: states[i],
-            time: times[i],
-        };
+            state: worker.states[i],
+            time: worker.times[i],
+        });
     }
-    Found {
-        at: i,
-        state: 0,
-        time: 0,
-    }
+    Err(Refusal::WrongState)
 }
 
 // 6 and 7, of a request.
@@ -48,12 +43,12 @@ fn request_verdict(last_request: u32, waiting: usize, id: u32) -> Verdict
     ensures { result ≡ or_accept no_target (first (request_list last_request waiting id)) }
 {
     if id <= last_request {
-        return Verdict::Refuse(Refusal::OldRequest);
+        return Err(Refusal::OldRequest);
     }
     if QUEUE <= waiting {
-        return Verdict::Refuse(Refusal::QueueFull);
+        return Err(Refusal::QueueFull);
     }
-    Verdict::Accept(NO_TARGET)
+    Ok(NO_TARGET)
 }
 
 // 11, of an abandon.
@@ -62,136 +57,95 @@ fn abandon_verdict(waiters: &Waiters, waiting: usize, id: u32) -> Verdict
     ensures { result ≡ or_accept (place_of id waiting waiters.now) (first (abandon_list waiters.now waiting id)) }
 {
     let k = table::find_waiter(waiters, waiting, id);
-    if k < waiting {
-        if waiters[k] % 4 < 2 {
-            return Verdict::Accept(k);
-        }
+    if k < waiting && waiters[k] % 4 < 2 {
+        return Ok(k);
     }
-    Verdict::Refuse(Refusal::NotWaiting)
+    Err(Refusal::NotWaiting)
 }
 
-// 8, where the connection has to be in one state, or in one of a range.
-fn in_state(at: usize, state: u8, low: u8, high: u8) -> Verdict
-    ensures { result ≡ or_accept at (first (state_list state low high)) }
+// The connection's slot, where it is in a state of the range. That of no connection is 0, which no range holds.
+fn find_in(worker: &ConnectionPoolWorker, id: u32, low: u8, high: u8) -> Result<Found, Refusal>
+    requires { 0 < low }
+    ensures { result ≡ in_states (pool_in worker.now) id low high }
 {
-    if low <= state {
-        if state <= high {
-            return Verdict::Accept(at);
-        }
+    let f = look(worker, id)?;
+    if !(low..=high).contains(&f.state) {
+        return Err(Refusal::WrongState);
     }
-    Verdict::Refuse(Refusal::WrongState)
+    Ok(f)
+}
+
+// 8.
+fn state_verdict(worker: &ConnectionPoolWorker, id: u32, low: u8, high: u8) -> Verdict
+    requires { 0 < low }
+    ensures { result ≡ or_accept (slot_of (pool_in worker.now) id) (first (state_list (state_of (pool_in worker.now) id) low high)) }
+{
+    Ok(find_in(worker, id, low, high)?.at)
 }
 
 // 8, then 9.
-fn in_time(f: Found, low: u8, high: u8, second: u64, time: u64) -> Verdict
-    ensures { result ≡ or_accept f.at (first (time_list f.state low high second f.time time)) }
+fn time_verdict(
+    worker: &ConnectionPoolWorker,
+    id: u32,
+    low: u8,
+    high: u8,
+    second: u64,
+    time: u64,
+) -> Verdict
+    requires { 0 < low }
+    ensures { result ≡ or_accept (slot_of (pool_in worker.now) id) (first (time_list (state_of (pool_in worker.now) id) low high second (time_of (pool_in worker.now) id) time)) }
 {
-    if f.state < low {
-        return Verdict::Refuse(Refusal::WrongState);
+    let f = find_in(worker, id, low, high)?;
+    if time < second || second < f.time {
+        return Err(Refusal::WrongTime);
     }
-    if high < f.state {
-        return Verdict::Refuse(Refusal::WrongState);
-    }
-    if time < second {
-        return Verdict::Refuse(Refusal::WrongTime);
-    }
-    if second < f.time {
-        return Verdict::Refuse(Refusal::WrongTime);
-    }
-    Verdict::Accept(f.at)
+    Ok(f.at)
 }
 
 // 12 before 8, of a pin.
-fn pin_verdict(at: usize, state: u8) -> Verdict
-    ensures { result ≡ or_accept at (first (pin_list state)) }
+fn pin_verdict(worker: &ConnectionPoolWorker, id: u32) -> Verdict
+    ensures { result ≡ or_accept (slot_of (pool_in worker.now) id) (first (pin_list (state_of (pool_in worker.now) id))) }
 {
-    if state == 3 {
-        return Verdict::Refuse(Refusal::AlreadyPinned);
+    let f = look(worker, id)?;
+    match f.state {
+        2 => Ok(f.at),
+        3 | 4 => Err(Refusal::AlreadyPinned),
+        _ => Err(Refusal::WrongState),
     }
-    if state == 4 {
-        return Verdict::Refuse(Refusal::AlreadyPinned);
-    }
-    if state == 2 {
-        return Verdict::Accept(at);
-    }
-    Verdict::Refuse(Refusal::WrongState)
 }
 
 // The tests of one kind of event.
-pub fn kind_verdict(
-    head: Head,
-    numbers: &Numbers,
-    times: &Times,
-    states: &States,
-    waiters: &Waiters,
-    e: Event,
-    time: u64,
-) -> Verdict
-    requires { Whole (pool_of head numbers.now times.now states.now waiters.now) × (head.waiting_count ≤ queue_length) }
-    ensures { result ≡ kind_verdict (pool_of head numbers.now times.now states.now waiters.now) e time }
+pub fn kind_verdict(worker: &ConnectionPoolWorker, e: Event, time: u64) -> Verdict
+    requires { worker.now.head.waiting_count ≤ queue_length }
+    ensures { result ≡ kind_verdict (pool_in worker.now) e time }
 {
+    let head = &worker.head;
     match e {
-        Event::CheckOut(id) => request_verdict(head.last_request, head.waiting_count, id),
-        Event::WarmPool(id) => request_verdict(head.last_request, head.waiting_count, id),
-        Event::Abandon(id) => abandon_verdict(waiters, head.waiting_count, id),
-        Event::CheckIn(id, _, _, let_go) => in_time(
-            look(numbers, times, states, id),
-            2,
-            4,
-            let_go,
-            time,
-        ),
-        Event::Clear(_, _) => Verdict::Accept(NO_TARGET),
-        Event::MarkAsReady => Verdict::Accept(NO_TARGET),
-        Event::Succeeded(id) => {
-            let f = look(numbers, times, states, id);
-            in_state(f.at, f.state, 5, 5)
+        Event::CheckOut(id) | Event::WarmPool(id) => {
+            request_verdict(head.last_request, head.waiting_count, id)
         }
-        Event::SucceededForPool(id, opened) => in_time(
-            look(numbers, times, states, id),
-            6,
-            6,
-            opened,
-            time,
-        ),
-        Event::Failed(id) => {
-            let f = look(numbers, times, states, id);
-            in_state(f.at, f.state, 5, 6)
-        }
-        Event::Maintenance => Verdict::Accept(NO_TARGET),
-        Event::FillPool => Verdict::Accept(NO_TARGET),
-        Event::Pin(id) => {
-            let f = look(numbers, times, states, id);
-            pin_verdict(f.at, f.state)
-        }
-        Event::ReturnToPinner(id) => {
-            let f = look(numbers, times, states, id);
-            in_state(f.at, f.state, 3, 3)
-        }
-        Event::TakeFromPinner(id) => {
-            let f = look(numbers, times, states, id);
-            in_state(f.at, f.state, 3, 4)
-        }
-        Event::Close => Verdict::Accept(NO_TARGET),
+        Event::Abandon(id) => abandon_verdict(&worker.waiters, head.waiting_count, id),
+        Event::CheckIn(id, _, _, let_go) => time_verdict(worker, id, 2, 4, let_go, time),
+        Event::Succeeded(id) => state_verdict(worker, id, 5, 5),
+        Event::SucceededForPool(id, opened) => time_verdict(worker, id, 6, 6, opened, time),
+        Event::Failed(id) => state_verdict(worker, id, 5, 6),
+        Event::Pin(id) => pin_verdict(worker, id),
+        Event::ReturnToPinner(id) => state_verdict(worker, id, 3, 3),
+        Event::TakeFromPinner(id) => state_verdict(worker, id, 3, 4),
+        Event::Clear(_, _)
+        | Event::MarkAsReady
+        | Event::Maintenance
+        | Event::FillPool
+        | Event::Close => Ok(NO_TARGET),
     }
 }
 
 // All tests of an event, in order.
-pub fn verdict(
-    head: Head,
-    numbers: &Numbers,
-    times: &Times,
-    states: &States,
-    waiters: &Waiters,
-    e: Event,
-    time: u64,
-) -> Verdict
-    requires { Whole (pool_of head numbers.now times.now states.now waiters.now) × (head.waiting_count ≤ queue_length) }
-    ensures { result ≡ verdict (pool_of head numbers.now times.now states.now waiters.now) e time }
+pub fn verdict(worker: &ConnectionPoolWorker, e: Event, time: u64) -> Verdict
+    requires { worker.now.head.waiting_count ≤ queue_length }
+    ensures { result ≡ verdict (pool_in worker.now) e time }
 {
-    let m = head.status;
-    match common_tests::common_verdict(head.clock, head.next_connection_id, m, time, e) {
-        Common::Refuse(r) => Verdict::Refuse(r),
-        Common::Pass => kind_verdict(head, numbers, times, states, waiters, e, time),
-    }
+    let head = &worker.head;
+    common_tests::common_verdict(head.clock, head.next_connection_id, head.status, time, e)?;
+    kind_verdict(worker, e, time)
 }

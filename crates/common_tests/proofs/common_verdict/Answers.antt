@@ -12,19 +12,19 @@ returns-then-time-clock c =
 pub returns-then-taken_after_close : goal.returns-then-taken_after_close
 returns-then-taken_after_close c =
     common_taken c.args.clock c.args.next_id c.args.m c.args.time c.args.e c.causeless.ensures c.if-causeless.false c.if-time-clock.false
-    c.kind_no-kind.ensures c.is_closed.ensures c.if-is_closed.true c.taken_after_close.ensures c.if-taken_after_close.true
+    c.is_closed.ensures c.if-is_closed.true c.taken_after_close.ensures c.if-taken_after_close.true
 
 pub returns-then-is_closed : goal.returns-then-is_closed
 returns-then-is_closed c =
     common_closed c.args.clock c.args.next_id c.args.m c.args.time c.args.e c.causeless.ensures c.if-causeless.false c.if-time-clock.false
-    c.kind_no-kind.ensures c.is_closed.ensures c.if-is_closed.true c.taken_after_close.ensures c.if-taken_after_close.false
+    c.is_closed.ensures c.if-is_closed.true c.taken_after_close.ensures c.if-taken_after_close.false
 
 pub returns-then-numbers_spent : goal.returns-then-numbers_spent
 returns-then-numbers_spent c =
     common_spent c.args.clock c.args.next_id c.args.m c.args.time c.args.e c.causeless.ensures c.if-causeless.false c.if-time-clock.false
-    c.kind_no-kind.ensures c.is_closed.ensures c.if-is_closed.false c.numbers_spent.ensures c.if-numbers_spent.true
+    c.is_closed.ensures c.if-is_closed.false c.numbers_spent.ensures c.if-numbers_spent.true
 
 pub returns : goal.returns
 returns c =
     common_open c.args.clock c.args.next_id c.args.m c.args.time c.args.e c.causeless.ensures c.if-causeless.false c.if-time-clock.false
-    c.kind_no-kind.ensures c.is_closed.ensures c.if-is_closed.false c.numbers_spent.ensures c.if-numbers_spent.false
+    c.is_closed.ensures c.if-is_closed.false c.numbers_spent.ensures c.if-numbers_spent.false

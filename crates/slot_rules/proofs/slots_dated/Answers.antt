@@ -1,16 +1,7 @@
-use Rattle.std.proofs.Common.{arith}
-use Rattle.definition.specs.Pool.{slot_count}
-use Rattle.slot_rules.specs.Tests.{slots_dated}
-use Rattle.slot_rules.proofs.Laws.{testing_start, testing_more, testing_end}
+use Rattle.std.proofs.Common.{rules}
+use Rattle.slot_rules.specs.Tests.{dated_at, slots_dated}
 use Rattle.slot_rules.proofs.slots_dated.Goals as goal
-
-pub loop-i-init : goal.loop-i-init
-loop-i-init c = testing_start slot_count _
-
-pub loop-i-preserved : goal.loop-i-preserved
-loop-i-preserved c =
-    testing_more slot_count _ c.loop-i.i c.loop-i.ok c.loop-i.invariant c.is_dated.result c.both-ok.result (omega arith) c.is_dated.ensures c.both-ok.ensures
 
 pub returns : goal.returns
 unfolding slots_dated
-returns c = testing_end slot_count _ c.loop-i.i c.loop-i.ok c.loop-i.invariant (omega arith)
+returns c = c.every.ensures (dated_at c.args.generations.now c.args.times.now c.args.generation c.args.time) (λ i b h p. search rules)

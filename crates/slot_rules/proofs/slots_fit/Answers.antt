@@ -1,16 +1,7 @@
-use Rattle.std.proofs.Common.{arith}
-use Rattle.definition.specs.Pool.{slot_count}
-use Rattle.slot_rules.specs.Tests.{slots_fit}
-use Rattle.slot_rules.proofs.Laws.{testing_start, testing_more, testing_end}
+use Rattle.std.proofs.Common.{rules}
+use Rattle.slot_rules.specs.Tests.{slot_fits_at, slots_fit}
 use Rattle.slot_rules.proofs.slots_fit.Goals as goal
-
-pub loop-i-init : goal.loop-i-init
-loop-i-init c = testing_start slot_count _
-
-pub loop-i-preserved : goal.loop-i-preserved
-loop-i-preserved c =
-    testing_more slot_count _ c.loop-i.i c.loop-i.ok c.loop-i.invariant c.slot_fits.result c.both-ok.result (omega arith) c.slot_fits.ensures c.both-ok.ensures
 
 pub returns : goal.returns
 unfolding slots_fit
-returns c = testing_end slot_count _ c.loop-i.i c.loop-i.ok c.loop-i.invariant (omega arith)
+returns c = let w = c.args.worker.now in c.every.ensures (slot_fits_at w.ids w.generations w.times w.states) (λ i b h p. search rules)

@@ -1,13 +1,16 @@
 use Rattle.std.specs.Prelude.{refl}
-use Rattle.slots.specs.View.{pool_of}
+use Rattle.std.proofs.lemmas.Result.{err_from_is_err_and}
+use Rattle.slots.specs.View.{pool_in}
 use Rattle.verdict.specs.Exits.{verdict_by, verdict_open}
 use Rattle.verdict.proofs.verdict.Goals as goal
 
-pub returns-in-Refuse : goal.returns-in-Refuse
-returns-in-Refuse c =
-    verdict_by ((pool_of c.args.head c.args.numbers.now c.args.times.now c.args.states.now c.args.waiters.now)) c.args.e c.args.time c.args.head.status refl refl c.common_verdict.ensures c.in-Refuse.is
+pub returns-in_err-common_verdict : goal.returns-in_err-common_verdict
+returns-in_err-common_verdict c =
+    let w = c.args.worker.now in
+    let p = err_from_is_err_and c.from_residual.result c.from_residual.ensures.1 in
+    rw (p.1, p.2) (verdict_by (pool_in w) c.args.e c.args.time w.head.status refl refl c.in_err-common_verdict.ensures)
 
-pub returns-in-Pass : goal.returns-in-Pass
-returns-in-Pass c =
-    verdict_open ((pool_of c.args.head c.args.numbers.now c.args.times.now c.args.states.now c.args.waiters.now)) c.args.e c.args.time c.args.head.status refl refl c.common_verdict.ensures
-    c.in-Pass.is c.kind_verdict.ensures
+pub returns : goal.returns
+returns c =
+    let w = c.args.worker.now in
+    verdict_open (pool_in w) c.args.e c.args.time w.head.status refl refl c.in_ok-common_verdict.ensures c.kind_verdict.ensures

@@ -1,102 +1,84 @@
 // The bytes of a line, read from its hexadecimal digits.
 #![tactic(auto)]
 
-ghost use Rattle.std.specs.Prelude.{◌≡◌, ◌≤◌, length, take};
+ghost use Rattle.std.specs.Prelude.{◌≡◌, ◌≤◌, List, ℕ, Some, map, length, take};
 ghost use Rattle.definition.specs.Bytes.{unhex, bytes_of};
-ghost use Rattle.digits.specs.Decode.{number, pairs_of, Numbered, bytes_in};
+ghost use Rattle.digits.specs.Decode.{number, digits?, pairs_of};
 
-// The number of a digit, and 16 for what is none. Two tests that do not depend on each other, no return and an
-// unconditional store in the loop below: so 16 digits are read at once.
+// The number of a digit, and 16 for what is none. No return, and an unconditional store in the loop below: so 16 digits are read at
+// once.
+#[tactic(auto, using(definition::specs::Booleans::choices), unfolding(crate::specs::Decode::number, definition::specs::Bytes::value_of))]
 fn number_of(c: u8) -> u8
     ensures { result ≡ number c }
 {
-    let mut v: u8 = 16;
-    if 48 <= c {
-        if c < 58 {
-            v = c - 48;
-        }
+    match c {
+        b'0'..=b'9' => c - b'0',
+        b'a'..=b'f' => c - b'a' + 10,
+        _ => 16,
     }
-    if 97 <= c {
-        if c < 103 {
-            v = c - 87;
-        }
-    }
-    v
 }
 
-// The numbers of 48 digits, and whether all are digits.
-#[derive(Clone, Copy)]
-struct Numbers {
-    good: bool,
-    numbers: [u8; 48],
-}
-
-fn numbers_of(s: &[u8]) -> Numbers
+// The numbers of 48 digits.
+fn numbers_of(s: &[u8]) -> [u8; 48]
     requires { 48 ≤ length s.now }
-    ensures { Numbered (take 48 s.now) result }
+    ensures { result ≡ map number (take 48 s.now) }
 {
-    let mut good = true;
     let mut numbers = [0u8; 48];
-    let mut i: usize = 0;
-    while i < 48 {
-        let v = number_of(s[i]);
-        if 15 < v {
-            good = false;
-        }
-        numbers[i] = v;
-        i += 1;
+    for (i, n) in numbers.iter_mut().enumerate() {
+        *n = number_of(s[i]);
     }
-    Numbers {
-        good: good,
-        numbers: numbers,
-    }
+    numbers
+}
+
+// Whether all are a digit's. All are looked at, so that it is done at once for 16.
+fn are_digits(numbers: &[u8; 48]) -> bool
+    ensures { result ≡ digits? numbers.now }
+{
+    numbers.iter().fold(true, |good, n| good & (*n < 16))
 }
 
 // Two numbers make a byte. Numbers that are no digit's make some byte too.
-fn paired(numbers: [u8; 48]) -> [u8; 24]
-    ensures { result ≡ pairs_of numbers }
+fn paired(numbers: &[u8; 48]) -> [u8; 24]
+    ensures { result ≡ pairs_of numbers.now }
 {
     let mut bytes = [0u8; 24];
-    let mut i: usize = 0;
-    while i < 24 {
-        bytes[i] = numbers[i * 2] % 16 * 16 + numbers[i * 2 + 1] % 16;
-        i += 1;
+    for (i, b) in bytes.iter_mut().enumerate() {
+        *b = numbers[i * 2] % 16 * 16 + numbers[i * 2 + 1] % 16;
     }
     bytes
 }
 
-// 24 bytes, where all digits were good.
-#[derive(Clone, Copy)]
-pub struct Bytes {
-    pub good: bool,
-    pub bytes: [u8; 24],
+// The bytes of 48 digits.
+#[tactic(auto, using(crate::proofs::Laws::decoding))]
+pub fn decode(s: &[u8]) -> Option<[u8; 24]>
+    requires { 48 ≤ length s.now }
+    ensures { result ≡ unhex (take 48 s.now) }
+{
+    let numbers = numbers_of(s);
+    if are_digits(&numbers) {
+        Some(paired(&numbers))
+    } else {
+        None
+    }
 }
 
-// The bytes of 48 digits.
-pub fn decode(s: &[u8]) -> Bytes
+// The bytes that any 48 make, digits or not.
+pub fn raw_bytes(s: &[u8]) -> [u8; 24]
     requires { 48 ≤ length s.now }
-    ensures { bytes_in result ≡ unhex (take 48 s.now) }
+    ensures pairs { result ≡ pairs_of (map number (take 48 s.now)) }
+    ensures of_digits { (bs : List ℕ) → unhex (take 48 s.now) ≡ Some bs → result ≡ bs }
 {
-    let n = numbers_of(s);
-    let numbers = n.numbers;
-    let bytes = paired(numbers);
-    Bytes {
-        good: n.good,
-        bytes: bytes,
-    }
+    paired(&numbers_of(s))
 }
 
 // The bytes of a line of 48 digits and a newline.
-pub fn line_bytes(l: &[u8]) -> Bytes
-    ensures { bytes_in result ≡ bytes_of l.now }
+#[tactic(auto, using(definition::specs::Booleans::choices), unfolding(definition::specs::Bytes::bytes_of))]
+pub fn line_bytes(l: &[u8]) -> Option<[u8; 24]>
+    ensures { result ≡ bytes_of l.now }
 {
-    if l.len() == 49 {
-        if l[48] == 10 {
-            return decode(l);
-        }
-    }
-    Bytes {
-        good: false,
-        bytes: [0u8; 24],
+    if l.len() == 49 && l[48] == b'\n' {
+        decode(l)
+    } else {
+        None
     }
 }

@@ -16,9 +16,9 @@ unfolding when◌then◌else◌
 flag_one true = refl
 flag_one false = refl
 
-pub flags_both : (a b : Bool) → bool_byte a + 2 * bool_byte b ≡ bit 1 a + bit 2 b
+pub flag_two : (b : Bool) → 2 * bool_byte b ≡ bit 2 b
 unfolding when◌then◌else◌
-flags_both true true = refl
-flags_both true false = refl
-flags_both false true = refl
-flags_both false false = refl
+flag_two true = refl
+flag_two false = refl
+
+pub ruleset flags = (flag_small, flag_one, flag_two)

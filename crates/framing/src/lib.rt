@@ -19,13 +19,15 @@ fn fields_bytes(kind: u8, flags: u8, id: u32, time: u64, second: u64) -> [u8; FR
     b
 }
 
+#[tactic(auto, using(crate::proofs::Flags::flags))]
 fn check_in_flags(errored: bool, executing: bool) -> u8
     ensures { result ≡ bit 1 errored + bit 2 executing }
 {
     errored as u8 + 2 * executing as u8
 }
 
-// The frame of an event with its time.
+// The frame of an event with its time. The kinds' numbers are the file format's own; `reading::fields_frame` has them too.
+#[tactic(auto, using(crate::proofs::Flags::flags), unfolding(definition::specs::Bytes::frame_bytes))]
 pub fn frame_bytes(e: Event, time: u64) -> [u8; FRAME]
     ensures { result ≡ frame_bytes e time }
 {
@@ -54,6 +56,7 @@ pub fn frame_bytes(e: Event, time: u64) -> [u8; FRAME]
     }
 }
 
+#[tactic(auto, unfolding(definition::specs::Bytes::options_bytes))]
 pub fn options_bytes(o: Options) -> [u8; FRAME]
     ensures { result ≡ options_bytes o }
 {

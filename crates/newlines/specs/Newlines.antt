@@ -1,5 +1,5 @@
 -- Newlines: how long a text's first line is, whether a piece ends with one, and whether there is none.
-use Rattle.std.specs.Prelude.{◌≡◌, refl, Bool, true, false, List, [], ◌∷◌, ℕ, zero, suc, ◌+◌, ◌-◌, ◌≤◌, ◌<◌, length, take, drop, get_or}
+use Rattle.std.specs.Prelude.{◌≡◌, refl, Bool, true, false, ◌&&◌, not, List, [], ◌∷◌, ℕ, zero, suc, ◌+◌, ◌-◌, ◌≤◌, ◌<◌, length, take, drop, get_or}
 use Rattle.std.proofs.Common.{sym, ap, ◌∙◌, arith, add-one, eq-eqb, ne_eqb, length-take, length-drop, drop_of_length-le, drop-cons, take_all, get_or-drop, get_or-take}
 use Rattle.std.proofs.lemmas.Bool.{false≢true}
 use Rattle.definition.specs.Words.{when◌then◌else◌, ◌=?◌}
@@ -88,7 +88,7 @@ len_clean (suc n) (a ∷ l) h c e = go (a =? newline) refl c (λ k. len_clean n 
     go true q k ih = absurd (false≢true k)
     go false q k ih = omega (arith, ih k)
 
-pub clean_more : (l : List ℕ) (i : ℕ) → i < length l → clean (take (i + 1) l) ≡ (when get_or l i 0 =? newline then false else clean (take i l))
+clean_more : (l : List ℕ) (i : ℕ) → i < length l → clean (take (i + 1) l) ≡ (when get_or l i 0 =? newline then false else clean (take i l))
 unfolding clean when◌then◌else◌
 clean_more [] i h = absurd (omega arith)
 clean_more (a ∷ l) zero h = refl
@@ -103,13 +103,15 @@ clean_more (a ∷ l) (suc i) h =
     swap false true k = refl
     swap false false k = refl
 
-pub clean_lost : (s : List ℕ) (i : ℕ) → i < length s → get_or s i 0 ≡ newline → false ≡ clean (take (i + 1) s)
+pub clean_next : (l : List ℕ) (i : ℕ) → i < length l → (clean (take i l) && not (get_or l i 0 =? newline)) ≡ clean (take (i + 1) l)
 unfolding when◌then◌else◌
-clean_lost s i h e = sym (clean_more s i h ∙ rw (eq-eqb (get_or s i 0) newline e))
-
-pub clean_kept : (s : List ℕ) (i : ℕ) → i < length s → (get_or s i 0 ≡ newline → ⊥) → clean (take i s) ≡ clean (take (i + 1) s)
-unfolding when◌then◌else◌
-clean_kept s i h e = sym (clean_more s i h ∙ rw (ne_eqb (get_or s i 0) newline e))
+clean_next l i h = sym (clean_more l i h ∙ pick (get_or l i 0 =? newline) (clean (take i l)))
+  where
+    pick : (x k : Bool) → (when x then false else k) ≡ (k && not x)
+    pick true true = refl
+    pick true false = refl
+    pick false true = refl
+    pick false false = refl
 
 -- a frame's line: 48 bytes with no newline, and then one
 pub whole_line : (text : List ℕ) (at : ℕ) → 49 ≤ length text - at → get_or text (at + 48) 0 ≡ newline

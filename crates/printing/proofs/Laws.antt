@@ -4,8 +4,8 @@ use mathlib.Core.List.{List, [], ◌∷◌, ◌++◌, append_assoc}
 use Prim.Native.Nat.{ℕ, suc, ◌+◌, ◌*◌, ◌/◌, ◌%◌, ◌≤◌, ◌<◌}
 use native.Mathlib.Numerals.{add-one}
 use native.Mathlib.Omega.{arith}
-use lib.ListN.{length, take, drop, get_or, set, length-append, length-take, length-set}
-use lib.Seq.{drop-cons, take-suc, set_at, append_snoc, take_all}
+use lib.ListN.{length, take, drop, get_or, set, length-append, length-take}
+use lib.Seq.{drop-cons, take-suc, set_at, append_snoc}
 use Rattle.definition.specs.Bytes.{digit_of, hex_of, line_of}
 use Rattle.definition.specs.HexLaws.{length_hex_of}
 
@@ -37,24 +37,12 @@ hex_stored s o i h g =
     rw (n, add-one i, t, d₁, d₂, e₁, ← append_snoc p x, e₂) (append_assoc p (x ∷ []) (y ∷ r) ∙ sym (append_assoc p (x ∷ y ∷ []) r))
 
 -- before turn i: the digits of the first i bytes stand at the front of o, which was o₀
-pub record Encoding (s o₀ o : List ℕ) (i : ℕ) : Type 0 where
-  pub low : i ≤ length s
-  pub long : length o ≡ length o₀
-  pub front : o ≡ hex_of (take i s) ++ drop (2 * i) o₀
+abbrev pub Encoding : (s o₀ o : List ℕ) (i : ℕ) → Type 0
+Encoding s o₀ o i = o ≡ hex_of (take i s) ++ drop (2 * i) o₀
 
-module _ (s o₀ o : List ℕ) (i : ℕ) (e : Encoding s o₀ o i) where
-  pub encoding_more : (x y : ℕ) → i < length s → 2 * length s ≤ length o₀ → x ≡ digit_of (get_or s i 0 / 16) → y ≡ digit_of (get_or s i 0 % 16)
-      → Encoding s o₀ (set (set o (i * 2) x) (i * 2 + 1) y) (i + 1)
-  encoding_more x y h g p q = record {
-    low = omega arith;
-    long = simp length-set e.long;
-    front = rw (e.front, p, q) (hex_stored s o₀ i h g);
-  }
-
-  pub encoding_end : length s ≤ i → o ≡ hex_of s ++ drop (2 * length s) o₀
-  encoding_end h =
-      let n : i ≡ length s = omega (arith, e.low) in
-      e.front ∙ rw (take_all i s h, n)
+pub encoding_more : (s o₀ o : List ℕ) (i x y : ℕ) → i < length s → 2 * length s ≤ length o₀ → x ≡ digit_of (get_or s i 0 / 16) → y ≡ digit_of (get_or s i 0 % 16)
+    → Encoding s o₀ o i → Encoding s o₀ (set (set o (i * 2) x) (i * 2 + 1) y) (i + 1)
+encoding_more s o₀ o i x y h g p q e = rw (e, p, q) (hex_stored s o₀ i h g)
 
 -- ── Lines ──
 

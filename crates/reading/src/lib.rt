@@ -1,13 +1,12 @@
 // Frames, options and lines read, each function equal to the definition's.
-#![tactic(auto)]
+#![tactic(auto, using(definition::specs::Booleans::choices))]
 
 ghost use Rattle.std.specs.Prelude.{◌≡◌};
 ghost use Rattle.definition.specs.Bytes.{plain, bare, check_in_frame, clear_frame, frame_of_fields, frame_of, options_of, frame_of_line, options_of_line};
 ghost use Rattle.definition.specs.Refusals.{causeless, malformed};
-ghost use Rattle.reading.specs.Given.{options_in};
 
 use big_endian::{u32_at, u64_at};
-use definition::{Event, Frame, Options};
+use definition::{Event, FRAME, Frame, Options};
 
 // ── Frames ──
 
@@ -15,23 +14,22 @@ use definition::{Event, Frame, Options};
 fn plain_frame(flags: u8, second: u64, f: Frame) -> Frame
     ensures { result ≡ plain flags second f }
 {
-    if flags != 0 {
-        return Frame::Bad;
+    if flags == 0 && second == 0 {
+        f
+    } else {
+        Frame::Bad
     }
-    if second != 0 {
-        return Frame::Bad;
-    }
-    f
 }
 
 // A frame with no id either.
 fn bare_frame(flags: u8, id: u32, second: u64, f: Frame) -> Frame
     ensures { result ≡ bare flags id second f }
 {
-    if id != 0 {
-        return Frame::Bad;
+    if id == 0 {
+        plain_frame(flags, second, f)
+    } else {
+        Frame::Bad
     }
-    plain_frame(flags, second, f)
 }
 
 fn check_in_frame(flags: u8, id: u32, time: u64, second: u64) -> Frame
@@ -42,7 +40,7 @@ fn check_in_frame(flags: u8, id: u32, time: u64, second: u64) -> Frame
         1 => Frame::Good(Event::CheckIn(id, true, false, second), time),
         2 => Frame::Good(Event::CheckIn(id, false, true, second), time),
         3 => Frame::Good(Event::CheckIn(id, true, true, second), time),
-        4..=255 => Frame::Bad,
+        _ => Frame::Bad,
     }
 }
 
@@ -52,10 +50,12 @@ fn clear_frame(flags: u8, id: u32, time: u64, second: u64) -> Frame
     match flags {
         0 => plain_frame(0, second, Frame::Good(Event::Clear(false, id), time)),
         1 => plain_frame(0, second, Frame::Good(Event::Clear(true, id), time)),
-        2..=255 => Frame::Bad,
+        _ => Frame::Bad,
     }
 }
 
+// The kinds' numbers are the file format's own. They stand here and in `framing::frame_bytes`; the theorem `frame_good` ties the two.
+#[tactic(auto, using(definition::specs::Booleans::choices), unfolding(definition::specs::Bytes::frame_of_fields))]
 fn fields_frame(kind: u8, flags: u8, id: u32, time: u64, second: u64) -> Frame
     ensures { result ≡ frame_of_fields kind flags id time second }
 {
@@ -79,21 +79,16 @@ fn fields_frame(kind: u8, flags: u8, id: u32, time: u64, second: u64) -> Frame
         13 => plain_frame(flags, second, Frame::Good(Event::ReturnToPinner(id), time)),
         14 => plain_frame(flags, second, Frame::Good(Event::TakeFromPinner(id), time)),
         15 => bare_frame(flags, id, second, Frame::Good(Event::Close, time)),
-        0 | 16..=255 => Frame::Bad,
+        _ => Frame::Bad,
     }
 }
 
 // Any bytes are a frame, if only a bad one.
+#[tactic(auto, using(definition::specs::Booleans::choices), unfolding(definition::specs::Bytes::frame_of))]
 pub fn frame_of(b: &[u8]) -> Frame
     ensures { result ≡ frame_of b.now }
 {
-    if b.len() != 24 {
-        return Frame::Bad;
-    }
-    if b[2] != 0 {
-        return Frame::Bad;
-    }
-    if b[3] != 0 {
+    if b.len() != FRAME || b[2] != 0 || b[3] != 0 {
         return Frame::Bad;
     }
     fields_frame(b[0], b[1], u32_at(b, 4), u64_at(b, 8), u64_at(b, 16))
@@ -103,10 +98,7 @@ pub fn frame_of(b: &[u8]) -> Frame
 pub fn causeless(e: Event) -> bool
     ensures { result ≡ causeless e }
 {
-    if let Event::Clear(_, cause) = e {
-        return cause == 0;
-    }
-    false
+    matches!(e, Event::Clear(_, 0))
 }
 
 // What no pool takes, whatever its state.
@@ -121,22 +113,14 @@ pub fn malformed(f: Frame) -> bool
 
 // ── Options ──
 
-#[derive(Clone, Copy)]
-pub enum Given {
-    Options(Options),
-    Malformed,
-}
-
-pub fn options_of(b: &[u8]) -> Given
-    ensures { options_in result ≡ options_of b.now }
+#[tactic(auto, using(definition::specs::Booleans::choices), unfolding(definition::specs::Bytes::options_of))]
+pub fn options_of(b: &[u8]) -> Option<Options>
+    ensures { result ≡ options_of b.now }
 {
-    if b.len() != 24 {
-        return Given::Malformed;
+    if b.len() != FRAME || u32_at(b, 0) != 0 {
+        return None;
     }
-    if u32_at(b, 0) != 0 {
-        return Given::Malformed;
-    }
-    Given::Options(Options {
+    Some(Options {
         maximum: u32_at(b, 4),
         minimum: u32_at(b, 8),
         connecting: u32_at(b, 12),
@@ -146,26 +130,20 @@ pub fn options_of(b: &[u8]) -> Given
 
 // ── Lines read ──
 
+#[tactic(auto, using(definition::specs::Booleans::choices), unfolding(definition::specs::Bytes::frame_of_line))]
 pub fn line_frame(l: &[u8]) -> Frame
     ensures { result ≡ frame_of_line l.now }
 {
-    let r = digits::line_bytes(l);
-    if r.good {
-        let b = r.bytes;
-        frame_of(&b)
-    } else {
-        Frame::Bad
+    match digits::line_bytes(l) {
+        Some(b) => frame_of(&b),
+        None => Frame::Bad,
     }
 }
 
-pub fn line_options(l: &[u8]) -> Given
-    ensures { options_in result ≡ options_of_line l.now }
+#[tactic(auto, using(definition::specs::Booleans::choices), unfolding(definition::specs::Bytes::options_of_line))]
+pub fn line_options(l: &[u8]) -> Option<Options>
+    ensures { result ≡ options_of_line l.now }
 {
-    let r = digits::line_bytes(l);
-    if r.good {
-        let b = r.bytes;
-        options_of(&b)
-    } else {
-        Given::Malformed
-    }
+    let b = digits::line_bytes(l)?;
+    options_of(&b)
 }

@@ -1,4 +1,4 @@
-// A refusal's number, and its line in the log.
+// A refusal's line in the log.
 #![tactic(auto)]
 
 ghost use Rattle.std.specs.Prelude.{◌≡◌, ◌++◌, ◌≤◌, length, drop};
@@ -7,25 +7,6 @@ ghost use Rattle.definition.specs.Refusals.{refusal_no};
 ghost use Rattle.definition.specs.Bytes.{record_bytes, line_of};
 
 use definition::Refusal;
-
-pub fn refusal_number(r: Refusal) -> u8
-    ensures { result ≡ refusal_no r }
-{
-    match r {
-        Refusal::OutputShort => 1,
-        Refusal::Malformed => 2,
-        Refusal::ClockBack => 3,
-        Refusal::AfterClose => 4,
-        Refusal::NumbersSpent => 5,
-        Refusal::OldRequest => 6,
-        Refusal::QueueFull => 7,
-        Refusal::WrongState => 8,
-        Refusal::WrongTime => 9,
-        Refusal::OptionsOutOfRange => 10,
-        Refusal::NotWaiting => 11,
-        Refusal::AlreadyPinned => 12,
-    }
-}
 
 fn refusal_record(number: u8, line: u32) -> [u8; 16]
     ensures { result ≡ record_bytes 0 (fields 32 number line 0) }
@@ -42,6 +23,6 @@ pub fn print_refusal(r: Refusal, line: u32, o: &mut [u8])
     requires { 33 ≤ length o.old }
     ensures { o.new ≡ line_of (record_bytes 0 (fields 32 (refusal_no r) line 0)) ++ drop 33 o.old }
 {
-    let b = refusal_record(refusal_number(r), line);
+    let b = refusal_record(u8::from(r), line);
     printing::print_line(&b, o);
 }

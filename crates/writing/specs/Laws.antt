@@ -22,7 +22,7 @@ use Rattle.definition.specs.declared.Frame.TheVariants.{Good, Bad}
 use Rattle.definition.specs.declared.Refusal.TheVariants.{OutputShort, Malformed}
 use Rattle.big_endian.specs.Laws.{tail_more}
 use Rattle.printing.specs.Printed.{printed_by}
-use Rattle.writing.specs.declared.Written.TheVariants as written
+use Rattle.std.specs.Prelude.{Ok, Err}
 use Rattle.writing.specs.Writes.{Writes}
 
 -- ── Bytes and frames ───────────────────────────────────────────────────────────────────────────────────────────────────────
@@ -147,17 +147,17 @@ module _ (b : List ℕ) (n i : ℕ) (e : Looking b n i) where
 -- ── A line written ─────────────────────────────────────────────────────────────────────────────────────────────────────────
 
 module _ (o : Options) (l : List ℕ) where
-  pub options_short : length l < 49 → Writes (write_options (length l) o) l (written.Refused OutputShort) l
+  pub options_short : length l < 49 → Writes (write_options (length l) o) l (Err OutputShort) l
   unfolding write_options
   options_short h = rw (short_first (length l) 1 [] h) (record { answer = refl; out = refl })
 
   pub options_laid : (b x : List ℕ) → 49 ≤ length l → b ≡ options_bytes o → x ≡ line_of b ++ drop (2 * length b + 1) l
-      → Writes (write_options (length l) o) l (written.Bytes 49) x
+      → Writes (write_options (length l) o) l (Ok 49) x
   unfolding write_options options_line
   options_laid b x h e q =
       let n : length (line_of (options_bytes o)) ≡ 49 = length_options o in
       let m : 2 * length (options_bytes o) + 1 ≡ 49 = omega (arith, options_length o) in
-      rw (all_pass (length l) 1 [] h refl) (record { answer = ap written.Bytes (sym n); out = q ∙ rw (e, m, n) })
+      rw (all_pass (length l) 1 [] h refl) (record { answer = ap Ok (sym n); out = q ∙ rw (e, m, n) })
 
 -- a frame alone
 pub one_alone : (f : Frame) → any? malformed (f ∷ []) ≡ malformed f
@@ -165,22 +165,22 @@ unfolding when◌then◌else◌
 one_alone f = by_bool (malformed f) (λ t. rw t) (λ t. rw t)
 
 module _ (f : Frame) (l : List ℕ) where
-  pub event_short : length l < 49 → Writes (write_event (length l) f) l (written.Refused OutputShort) l
+  pub event_short : length l < 49 → Writes (write_event (length l) f) l (Err OutputShort) l
   unfolding write_event
   event_short h = rw (short_first (length l) 1 (f ∷ []) h) (record { answer = refl; out = refl })
 
-  pub event_malformed : 49 ≤ length l → malformed f ≡ true → Writes (write_event (length l) f) l (written.Refused Malformed) l
+  pub event_malformed : 49 ≤ length l → malformed f ≡ true → Writes (write_event (length l) f) l (Err Malformed) l
   unfolding write_event
   event_malformed h t = rw (malformed_next (length l) 1 (f ∷ []) h (one_alone f ∙ t)) (record { answer = refl; out = refl })
 
-  event_written : (x : List ℕ) → 49 ≤ length l → malformed f ≡ false → x ≡ event_line f ++ drop 49 l → Writes (write_event (length l) f) l (written.Bytes 49) x
+  event_written : (x : List ℕ) → 49 ≤ length l → malformed f ≡ false → x ≡ event_line f ++ drop 49 l → Writes (write_event (length l) f) l (Ok 49) x
   unfolding write_event
   event_written x h t q =
       let n : length (event_line f) ≡ 49 = length_event f t in
-      rw (all_pass (length l) 1 (f ∷ []) h (one_alone f ∙ t)) (record { answer = ap written.Bytes (sym n); out = q ∙ rw n })
+      rw (all_pass (length l) 1 (f ∷ []) h (one_alone f ∙ t)) (record { answer = ap Ok (sym n); out = q ∙ rw n })
 
 pub event_laid : (b l x : List ℕ) → ((k : ℕ) → get_or b k 0 < 256) → 49 ≤ length l → malformed (frame_of b) ≡ false → x ≡ line_of b ++ drop (2 * length b + 1) l
-    → Writes (write_event (length l) (frame_of b)) l (written.Bytes 49) x
+    → Writes (write_event (length l) (frame_of b)) l (Ok 49) x
 event_laid b l x g h t q =
     let m : 2 * length b + 1 ≡ 49 = omega (arith, sound_length b t) in
     event_written (frame_of b) l x h t (q ∙ ap (λ (j : ℕ). line_of b ++ drop j l) m ∙ ap (λ (y : List ℕ). y ++ drop 49 l) (sym (sound_line b (bytes_of b g) t)))
@@ -189,7 +189,7 @@ event_laid b l x g h t q =
 
 -- c is the count of the frames
 module _ (o : Options) (b l : List ℕ) (c : ℕ) (e : c ≡ frames_count (length b)) where
-  pub day_short : length l / 49 ≤ c → Writes (write_day (length l) o (frames_in b)) l (written.Refused OutputShort) l
+  pub day_short : length l / 49 ≤ c → Writes (write_day (length l) o (frames_in b)) l (Err OutputShort) l
   unfolding write_day
   day_short h =
       let s : length l < 49 * (length (frames_in b) + 1) = omega (arith, length_frames_in b) in
@@ -199,29 +199,29 @@ module _ (o : Options) (b l : List ℕ) (c : ℕ) (e : c ≡ frames_count (lengt
     room : 49 * (length (frames_in b) + 1) ≤ length l
     room = omega (arith, length_frames_in b)
 
-    pub day_malformed : any? malformed (frames_in b) ≡ true → Writes (write_day (length l) o (frames_in b)) l (written.Refused Malformed) l
+    pub day_malformed : any? malformed (frames_in b) ≡ true → Writes (write_day (length l) o (frames_in b)) l (Err Malformed) l
     unfolding write_day
     day_malformed t = rw (malformed_next (length l) (length (frames_in b) + 1) (frames_in b) room t) (record { answer = refl; out = refl })
 
     day_written : (x : List ℕ) (n : ℕ) → n ≡ 49 * (length (frames_in b) + 1) → any? malformed (frames_in b) ≡ false
-        → x ≡ day_text o (frames_in b) ++ drop n l → Writes (write_day (length l) o (frames_in b)) l (written.Bytes n) x
+        → x ≡ day_text o (frames_in b) ++ drop n l → Writes (write_day (length l) o (frames_in b)) l (Ok n) x
     unfolding write_day
     day_written x n z t q =
         let k : n ≡ length (day_text o (frames_in b)) = z ∙ sym (day_length o (frames_in b) t) in
         rw (all_pass (length l) (length (frames_in b) + 1) (frames_in b) room t)
-        (record { answer = ap written.Bytes k; out = q ∙ ap (λ (j : ℕ). day_text o (frames_in b) ++ drop j l) k })
+        (record { answer = ap Ok k; out = q ∙ ap (λ (j : ℕ). day_text o (frames_in b) ++ drop j l) k })
 
     module _ (w : length b % 24 ≡ 0) where
       -- m is the answer of the search
       pub day_any_malformed : (m : Bool) → m ≡ any? malformed (frames_from (length b / 24) b) → m ≡ true
-          → Writes (write_day (length l) o (frames_in b)) l (written.Refused Malformed) l
+          → Writes (write_day (length l) o (frames_in b)) l (Err Malformed) l
       day_any_malformed m a t = day_malformed (ap (any? malformed) (whole_frames b w) ∙ sym a ∙ t)
 
       -- the line of the options, whose bytes are ob, left x; the lines of the events were laid in its tail, which came back as y
       pub day_laid : (m : Bool) (ob x y : List ℕ) → m ≡ any? malformed (frames_from (length b / 24) b) → m ≡ false → ((k : ℕ) → get_or b k 0 < 256)
           → ob ≡ options_bytes o → x ≡ line_of ob ++ drop (2 * length ob + 1) l
           → y ≡ printed_by 24 (length b / 24) b ++ drop (49 * (length b / 24)) (take (length x - 49) (drop 49 x))
-          → Writes (write_day (length l) o (frames_in b)) l (written.Bytes (49 * (length b / 24 + 1))) (take 49 x ++ (y ++ drop (length x - 49) (drop 49 x)))
+          → Writes (write_day (length l) o (frames_in b)) l (Ok (49 * (length b / 24 + 1))) (take 49 x ++ (y ++ drop (length x - 49) (drop 49 x)))
       unfolding day_text options_line
       day_laid m ob x y a t g p q r =
           let n : ℕ = length b / 24 in

@@ -2,7 +2,7 @@
 -- that the contracts allow.
 use Rattle.std.specs.Prelude.{◌≡◌, refl, false, List, [], ◌∷◌, ◌++◌, ℕ, zero, suc, ◌+◌, ◌*◌, ◌/◌, ◌%◌, ◌≤◌, ◌<◌, length, take, drop}
 use Rattle.std.proofs.Common.{ap, sym, ◌∙◌, true≢false, arith, length-append, take_at, drop_at}
-use Rattle.std.proofs.Math.Option.{Option, none, some}
+use Rattle.std.specs.Prelude.{Option, None as none, Some as some}
 use Rattle.definition.specs.Words.{any?}
 use Rattle.definition.specs.Refusals.{first, causeless, malformed}
 use Rattle.definition.specs.Bytes.{day_line_length, frame_bytes, frame_of, frame_of_line, options_of_line}
@@ -17,21 +17,20 @@ use Rattle.definition.specs.declared.Frame.TheVariants.{Good, Bad}
 use Rattle.definition.specs.declared.Options.{Options}
 use Rattle.definition.specs.declared.Refusal.{Refusal}
 use Rattle.definition.specs.declared.Refusal.TheVariants.{OutputShort}
-use Rattle.writing.specs.declared.Written.{Written}
-use Rattle.writing.specs.declared.Written.TheVariants as written
+use Rattle.std.specs.Prelude.{Result, Ok, Err}
 use Rattle.writing.specs.Writes.{Writes}
 use Rattle.writing.specs.Laws.{bytes_take, bytes_drop, sound_length, sound_line, count_whole, one_alone}
 
 -- ── The answer ─────────────────────────────────────────────────────────────────────────────────────────────────────────────
 
 -- nothing is left open
-pub written_once : {w : Writing} {lent : List ℕ} {r r' : Written} {left left' : List ℕ} → Writes w lent r left → Writes w lent r' left' → (r ≡ r') × (left ≡ left')
+pub written_once : {w : Writing} {lent : List ℕ} {r r' : Result ℕ Refusal} {left left' : List ℕ} → Writes w lent r left → Writes w lent r' left' → (r ≡ r') × (left ≡ left')
 written_once a b = (a.answer ∙ sym b.answer, a.out ∙ sym b.out)
 
-pub refused_stays : (w : Writing) (lent : List ℕ) (r : Written) (left : List ℕ) (x : Refusal) → Writes w lent r left → r ≡ written.Refused x → left ≡ lent
+pub refused_stays : (w : Writing) (lent : List ℕ) (r : Result ℕ Refusal) (left : List ℕ) (x : Refusal) → Writes w lent r left → r ≡ Err x → left ≡ lent
 refused_stays (NotWritten y) lent r left x a e = a.out
 refused_stays (Definition.Written t) lent r left x a e =
-    let q : written.Refused x ≡ written.Bytes (length t) = sym e ∙ a.answer in
+    let q : Err x ≡ Ok (length t) = sym e ∙ a.answer in
     let z : ◌≡◌ {A = ℕ} 0 1 = cc in absurd (omega arith)
 
 -- where bytes were written, no test held, and the text stands in front
@@ -39,56 +38,56 @@ record Front (t : Option Refusal) (text : List ℕ) (n : ℕ) (left : List ℕ) 
   passed : t ≡ none
   front : take n left ≡ text
 
-in_front : (t : Option Refusal) (text lent : List ℕ) (r : Written) (left : List ℕ) (n : ℕ) → Writes (unless t text) lent r left → r ≡ written.Bytes n → Front t text n left
+in_front : (t : Option Refusal) (text lent : List ℕ) (r : Result ℕ Refusal) (left : List ℕ) (n : ℕ) → Writes (unless t text) lent r left → r ≡ Ok n → Front t text n left
 in_front none text lent r left n a e =
-    let q : written.Bytes n ≡ written.Bytes (length text) = sym e ∙ a.answer in
+    let q : Ok n ≡ Ok (length text) = sym e ∙ a.answer in
     let k : n ≡ length text = cc in
     record { passed = refl; front = ap (take n) a.out ∙ take_at text (drop (length text) lent) n (sym k) }
 in_front (some x) text lent r left n a e =
-    let q : written.Bytes n ≡ written.Refused x = sym e ∙ a.answer in
+    let q : Ok n ≡ Err x = sym e ∙ a.answer in
     let z : ◌≡◌ {A = ℕ} 0 1 = cc in absurd (omega arith)
 
 -- a text is the answer, and stands at the front of what was lent
-pub record Leaves (text lent : List ℕ) (r : Written) (left : List ℕ) : Type 0 where
-  pub answer : r ≡ written.Bytes (length text)
+pub record Leaves (text lent : List ℕ) (r : Result ℕ Refusal) (left : List ℕ) : Type 0 where
+  pub answer : r ≡ Ok (length text)
   pub out : left ≡ text ++ drop (length text) lent
 
-leaves : (t : Option Refusal) (text lent : List ℕ) (r : Written) (left : List ℕ) → t ≡ none → Writes (unless t text) lent r left → Leaves text lent r left
+leaves : (t : Option Refusal) (text lent : List ℕ) (r : Result ℕ Refusal) (left : List ℕ) → t ≡ none → Writes (unless t text) lent r left → Leaves text lent r left
 leaves none text lent r left e a = record { answer = a.answer; out = a.out }
 leaves (some x) text lent r left e a = let z : ◌≡◌ {A = ℕ} 0 1 = cc in absurd (omega arith)
 
 -- ── Too short ──────────────────────────────────────────────────────────────────────────────────────────────────────────────
 
-too_short : (room lines : ℕ) (fs : List Frame) (text lent : List ℕ) (r : Written) (left : List ℕ) → room < day_line_length * lines
-    → Writes (unless (first (writing_tests room lines fs)) text) lent r left → r ≡ written.Refused OutputShort
+too_short : (room lines : ℕ) (fs : List Frame) (text lent : List ℕ) (r : Result ℕ Refusal) (left : List ℕ) → room < day_line_length * lines
+    → Writes (unless (first (writing_tests room lines fs)) text) lent r left → r ≡ Err OutputShort
 too_short room lines fs text lent r left h a = rw (short_first room lines fs h) at a.answer
 
 -- a text of one line, or of one line more than there are events, has no room, whatever the events are
-pub options_short_refused : (o : Options) (lent : List ℕ) (r : Written) (left : List ℕ) → length lent < day_line_length
-    → Writes (write_options (length lent) o) lent r left → r ≡ written.Refused OutputShort
+pub options_short_refused : (o : Options) (lent : List ℕ) (r : Result ℕ Refusal) (left : List ℕ) → length lent < day_line_length
+    → Writes (write_options (length lent) o) lent r left → r ≡ Err OutputShort
 unfolding write_options
 options_short_refused o lent r left h a = too_short (length lent) 1 [] (options_line o) lent r left h a
 
-pub event_short_refused : (f : Frame) (lent : List ℕ) (r : Written) (left : List ℕ) → length lent < day_line_length
-    → Writes (write_event (length lent) f) lent r left → r ≡ written.Refused OutputShort
+pub event_short_refused : (f : Frame) (lent : List ℕ) (r : Result ℕ Refusal) (left : List ℕ) → length lent < day_line_length
+    → Writes (write_event (length lent) f) lent r left → r ≡ Err OutputShort
 unfolding write_event
 event_short_refused f lent r left h a = too_short (length lent) 1 (f ∷ []) (event_line f) lent r left h a
 
-pub short_refused : (o : Options) (fs : List Frame) (lent : List ℕ) (r : Written) (left : List ℕ) → length lent < day_line_length * (length fs + 1)
-    → Writes (write_day (length lent) o fs) lent r left → r ≡ written.Refused OutputShort
+pub short_refused : (o : Options) (fs : List Frame) (lent : List ℕ) (r : Result ℕ Refusal) (left : List ℕ) → length lent < day_line_length * (length fs + 1)
+    → Writes (write_day (length lent) o fs) lent r left → r ≡ Err OutputShort
 unfolding write_day
 short_refused o fs lent r left h a = too_short (length lent) (length fs + 1) fs (day_text o fs) lent r left h a
 
 -- ── Options ────────────────────────────────────────────────────────────────────────────────────────────────────────────────
 
-pub options_back : (o : Options) (lent : List ℕ) (r : Written) (left : List ℕ) (n : ℕ) → Storable o
-    → Writes (write_options (length lent) o) lent r left → r ≡ written.Bytes n → options_of_line (take n left) ≡ some o
+pub options_back : (o : Options) (lent : List ℕ) (r : Result ℕ Refusal) (left : List ℕ) (n : ℕ) → Storable o
+    → Writes (write_options (length lent) o) lent r left → r ≡ Ok n → options_of_line (take n left) ≡ some o
 unfolding write_options options_line
 options_back o lent r left n s a e =
     let f = in_front (first (writing_tests (length lent) 1 [])) (options_line o) lent r left n a e in
     ap options_of_line f.front ∙ options_written_read o s
 
-pub options_again : (l : List ℕ) (o : Options) (lent : List ℕ) (r : Written) (left : List ℕ) → options_of_line l ≡ some o → length l ≤ length lent
+pub options_again : (l : List ℕ) (o : Options) (lent : List ℕ) (r : Result ℕ Refusal) (left : List ℕ) → options_of_line l ≡ some o → length l ≤ length lent
     → Writes (write_options (length lent) o) lent r left → Leaves l lent r left
 unfolding write_options options_line
 options_again l o lent r left q h a =
@@ -103,8 +102,8 @@ line_back : (b : List ℕ) → Bytes b → malformed (frame_of b) ≡ false → 
 unfolding frame_of_line
 line_back b h s = rw (sound_line b h s, line_good b h (sound_length b s))
 
-pub event_back : (b lent : List ℕ) (r : Written) (left : List ℕ) (n : ℕ) → Bytes b
-    → Writes (write_event (length lent) (frame_of b)) lent r left → r ≡ written.Bytes n → frame_of_line (take n left) ≡ frame_of b
+pub event_back : (b lent : List ℕ) (r : Result ℕ Refusal) (left : List ℕ) (n : ℕ) → Bytes b
+    → Writes (write_event (length lent) (frame_of b)) lent r left → r ≡ Ok n → frame_of_line (take n left) ≡ frame_of b
 unfolding write_event
 event_back b lent r left n h a e =
     let f = in_front (first (writing_tests (length lent) 1 (frame_of b ∷ []))) (event_line (frame_of b)) lent r left n a e in
@@ -112,9 +111,9 @@ event_back b lent r left n h a e =
     ap frame_of_line f.front ∙ line_back b h s
 
 -- from an event with its time
-pub event_given_back : (e : Event) (now : ℕ) (lent : List ℕ) (r : Written) (left : List ℕ) → Writable e now → causeless e ≡ false → day_line_length ≤ length lent
+pub event_given_back : (e : Event) (now : ℕ) (lent : List ℕ) (r : Result ℕ Refusal) (left : List ℕ) → Writable e now → causeless e ≡ false → day_line_length ≤ length lent
     → Writes (write_event (length lent) (frame_of (frame_bytes e now))) lent r left
-    → (r ≡ written.Bytes day_line_length) × (frame_of_line (take day_line_length left) ≡ Good e now)
+    → (r ≡ Ok day_line_length) × (frame_of_line (take day_line_length left) ≡ Good e now)
 unfolding write_event
 event_given_back e now lent r left w c h a =
     let b : List ℕ = frame_bytes e now in
@@ -122,10 +121,10 @@ event_given_back e now lent r left w c h a =
     let s : malformed (frame_of b) ≡ false = ap malformed g ∙ c in
     let l = leaves (first (writing_tests (length lent) 1 (frame_of b ∷ []))) (event_line (frame_of b)) lent r left
     (all_pass (length lent) 1 (frame_of b ∷ []) h (one_alone (frame_of b) ∙ s)) a in
-    let k : r ≡ written.Bytes day_line_length = l.answer ∙ ap written.Bytes (length_event (frame_of b) s) in
+    let k : r ≡ Ok day_line_length = l.answer ∙ ap Ok (length_event (frame_of b) s) in
     (k, event_back b lent r left day_line_length (frame_bytes_lem e now) a k ∙ g)
 
-pub event_again : (l : List ℕ) (e : Event) (now : ℕ) (lent : List ℕ) (r : Written) (left : List ℕ) → frame_of_line l ≡ Good e now → causeless e ≡ false → length l ≤ length lent
+pub event_again : (l : List ℕ) (e : Event) (now : ℕ) (lent : List ℕ) (r : Result ℕ Refusal) (left : List ℕ) → frame_of_line l ≡ Good e now → causeless e ≡ false → length l ≤ length lent
     → Writes (write_event (length lent) (frame_of (frame_bytes e now))) lent r left → Leaves l lent r left
 unfolding write_event event_line
 event_again l e now lent r left q c h a =
@@ -150,8 +149,8 @@ frames_writable (suc n) b h s =
     let m = sound_first (frame_of (take 24 b)) (frames_from n (drop 24 b)) s in
     frame_writable (take 24 b) (frame_of (take 24 b)) (bytes_take h 24) refl m.0 (frames_writable n (drop 24 b) (bytes_drop h 24) m.1)
 
-pub day_back : (o : Options) (b lent : List ℕ) (r : Written) (left : List ℕ) (n : ℕ) → Storable o → Bytes b
-    → Writes (write_day (length lent) o (frames_in b)) lent r left → r ≡ written.Bytes n → DayRead (take n left) o (frames_in b)
+pub day_back : (o : Options) (b lent : List ℕ) (r : Result ℕ Refusal) (left : List ℕ) (n : ℕ) → Storable o → Bytes b
+    → Writes (write_day (length lent) o (frames_in b)) lent r left → r ≡ Ok n → DayRead (take n left) o (frames_in b)
 unfolding write_day frames_in
 day_back o b lent r left n s h a e =
     let fs : List Frame = frames_in b in
@@ -206,7 +205,7 @@ day_as_bytes text o fs d s =
     let w = (day_read_written text o fs d s).writable in
     record { given = frames_bytes fs; bytes = frames_bytes_lem w; same = frames_in_lem w }
 
-pub day_again : (text : List ℕ) (o : Options) (fs : List Frame) (b lent : List ℕ) (r : Written) (left : List ℕ) → DayRead text o fs → any? malformed fs ≡ false
+pub day_again : (text : List ℕ) (o : Options) (fs : List Frame) (b lent : List ℕ) (r : Result ℕ Refusal) (left : List ℕ) → DayRead text o fs → any? malformed fs ≡ false
     → frames_in b ≡ fs → length text ≤ length lent → Writes (write_day (length lent) o (frames_in b)) lent r left → Leaves text lent r left
 unfolding write_day
 day_again text o fs b lent r left d s q h a =

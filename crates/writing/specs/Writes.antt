@@ -2,14 +2,14 @@
 use Rattle.std.specs.Prelude.{◌≡◌, List, ℕ, length}
 use Rattle.definition.specs.Writing as Definition
 use Rattle.definition.specs.Writing.{Writing, NotWritten, laid}
-use Rattle.writing.specs.declared.Written.{Written}
-use Rattle.writing.specs.declared.Written.TheVariants.{Refused, Bytes}
+use Rattle.std.specs.Prelude.{Result, Ok, Err}
+use Rattle.definition.specs.declared.Refusal.{Refusal}
 
 -- the answer that says it
-abbrev pub answer_of : Writing → Written
-answer_of (NotWritten r) = Refused r
-answer_of (Definition.Written t) = Bytes (length t)
+abbrev pub answer_of : Writing → Result ℕ Refusal
+answer_of (NotWritten r) = Err r
+answer_of (Definition.Written t) = Ok (length t)
 
-pub record Writes (w : Writing) (lent : List ℕ) (r : Written) (left : List ℕ) : Type 0 where
+pub record Writes (w : Writing) (lent : List ℕ) (r : Result ℕ Refusal) (left : List ℕ) : Type 0 where
   pub answer : r ≡ answer_of w
   pub out : left ≡ laid w lent

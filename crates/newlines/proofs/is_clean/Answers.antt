@@ -1,20 +1,23 @@
-use Rattle.std.proofs.Common.{◌∙◌, refl, ◌<◌, length, arith}
-use Rattle.newlines.specs.Newlines.{clean, clean_lost, clean_kept}
-use Rattle.newlines.proofs.is_clean.Goals.{then-bytes-i-eq10, else-bytes-i-eq10}
+use Rattle.std.specs.Prelude.{◌≡◌, ◌<◌, refl, length, take}
+use Rattle.std.proofs.Common.{◌∙◌, arith, ap, length-take, get_or-take}
+use Rattle.newlines.specs.Newlines.{clean, clean_next}
 use Rattle.newlines.proofs.is_clean.Goals as goal
 
-pub loop-i-init : goal.loop-i-init
+pub loop-b-init : goal.loop-b-init
 unfolding clean
-loop-i-init c = (omega arith, refl)
+loop-b-init c = refl
 
-pub loop-i-preserved : goal.loop-i-preserved
-loop-i-preserved c =
+pub loop-b-preserved : goal.loop-b-preserved
+loop-b-preserved c =
+    let i = c.loop-b.b-index in
     let bytes = c.args.bytes.now in
-    let i = c.loop-i.i in
-    let h : i < length bytes = omega arith in (
-      omega arith,
-      elim c.if-bytes-i-eq10.branch [
-        | then-bytes-i-eq10 w ↦ w.good-is ∙ clean_lost bytes i h w.if-bytes-i-eq10.true
-        | else-bytes-i-eq10 w ↦ w.good-is ∙ c.loop-i.invariant.1 ∙ clean_kept bytes i h w.if-bytes-i-eq10.false
-      ],
-    )
+    let n : length (take 48 bytes) ≡ 48 = simp length-take (omega arith) in
+    let h : i < 48 = omega arith in
+    rw (get_or-take 48 bytes i 0 h, c.loop-b.invariant) (clean_next bytes i (omega arith))
+
+pub returns : goal.returns
+returns c =
+    let bytes = c.args.bytes.now in
+    let n : length (take 48 bytes) ≡ 48 = simp length-take (omega arith) in
+    let e : c.loop-b.b-index ≡ 48 = omega arith in
+    c.loop-b.invariant ∙ rw e

@@ -1,10 +1,5 @@
-use Prim.Native.Nat.{◌-◌}
-use Rattle.std.specs.Prelude.{length}
 use Rattle.printing.proofs.Laws.{Encoding}
 use Rattle.printing.proofs.encode.Given as goal
 
 abbrev pub invariant-loop-i : goal.invariant-loop-i
 invariant-loop-i l = Encoding l.s l.initial.o l.o l.i
-
-abbrev pub decreases-loop-i : goal.decreases-loop-i
-decreases-loop-i l = length l.s - l.i

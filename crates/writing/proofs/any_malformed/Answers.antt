@@ -8,12 +8,12 @@ loop-i-init c = looking_start c.args.frames.now c.args.n
 
 pub returns-then-malformed : goal.returns-then-malformed
 returns-then-malformed c =
-    looking_found c.args.frames.now c.args.n c.loop-i.i c.loop-i.invariant c.malformed.result (c.loop-i.i * 24 + 24 - c.loop-i.i * 24) c.frame_of.result
+    looking_found c.args.frames.now c.args.n c.loop-i.i c.loop-i.invariant c.malformed.result ((c.loop-i.i + 1) * 24 - c.loop-i.i * 24) c.frame_of.result
     (omega arith) (omega arith) c.frame_of.ensures c.malformed.ensures c.if-malformed.true
 
 pub loop-i-preserved : goal.loop-i-preserved
 loop-i-preserved c =
-    looking_more c.args.frames.now c.args.n c.loop-i.i c.loop-i.invariant c.malformed.result (c.loop-i.i * 24 + 24 - c.loop-i.i * 24) c.frame_of.result
+    looking_more c.args.frames.now c.args.n c.loop-i.i c.loop-i.invariant c.malformed.result ((c.loop-i.i + 1) * 24 - c.loop-i.i * 24) c.frame_of.result
     (omega arith) (omega arith) c.frame_of.ensures c.malformed.ensures c.if-malformed.false
 
 pub returns : goal.returns

@@ -17,8 +17,8 @@ returns-then-any_malformed c =
     day_any_malformed c.args.o c.args.frames.now c.args.out.now c.frames_count.result c.frames_count.ensures c.if-out-frames_count.false c.if-frames-ne0.false
     c.any_malformed.result c.any_malformed.ensures c.if-any_malformed.true
 
-pub print_frames-requires : goal.print_frames-requires
-print_frames-requires c =
+pub print_pieces-requires : goal.print_pieces-requires
+print_pieces-requires c =
     (search rules, simp (length-take, length-drop) (omega (arith, c.frames_count.ensures, count_whole (length c.args.frames.now) c.if-frames-ne0.false, c.if-out-frames_count.false)))
 
 pub overflow_mul-result : goal.overflow_mul-result
@@ -28,6 +28,6 @@ overflow_mul-result c =
 pub returns : goal.returns
 returns c =
     day_laid c.args.o c.args.frames.now c.args.out.now c.frames_count.result c.frames_count.ensures c.if-out-frames_count.false c.if-frames-ne0.false
-    c.any_malformed.result c.options_bytes-b.result c.print_line.new.o c.print_frames.new.o
+    c.any_malformed.result c.options_bytes-b.result c.print_line.new.o c.print_pieces.new.o
     c.any_malformed.ensures c.if-any_malformed.false (λ i. (c.shared_slice_known-1.given i).fits)
-    c.options_bytes-b.ensures c.print_line.ensures c.print_frames.ensures
+    c.options_bytes-b.ensures c.print_line.ensures c.print_pieces.ensures

@@ -1,11 +1,11 @@
 -- Whatever the text in words, what is written for it is a day that the writer writes, of the options and events told.
-use Rattle.std.specs.Prelude.{◌≡◌, Bool, ℕ, ◌+◌, ◌*◌, ◌≤◌, ◌<◌, length}
+use Rattle.std.specs.Prelude.{◌≡◌, Bool, ℕ, ◌+◌, ◌*◌, ◌≤◌, ◌<◌, length, is_some}
 use Rattle.std.proofs.Math.Path.{refl, sym, ap}
 use Rattle.std.proofs.Common.{subst, ◌∙◌, true≢false, arith}
 use Rattle.std.proofs.Math.Bool.{true, false}
 use Rattle.std.proofs.lemmas.Bool.{false≢true}
 use mathlib.Core.List.{List, [], ◌∷◌, ◌++◌, append_assoc, append-nil}
-use Rattle.std.proofs.Math.Option.{Option}
+use Rattle.std.specs.Prelude.{Option}
 use Rattle.definition.specs.Words.{when◌then◌else◌, any?}
 use Rattle.definition.proofs.Sentences.{if_both}
 use Rattle.definition.specs.Refusals.{malformed, causeless}
@@ -30,7 +30,7 @@ use Rattle.notation.specs.Good.{Fits, fits_start, fits_takes, fits_says, fits_op
 use Rattle.wording.specs.Wording.{Reading, word_takes, behind, end_word, begun, reads, ended}
 use Rattle.heading.specs.declared.Heading.{Heading}
 use Rattle.heading.specs.declared.Told.TheVariants as tells
-use Rattle.heading.specs.Heading.{has, with_setting, with_idle, with_event, heard, option, hears}
+use Rattle.heading.specs.Heading.{options_of, has, with_setting, with_idle, with_event, heard, option, hears}
 use Rattle.laying.specs.Laying.{first_line, frame_line}
 use Rattle.draft.specs.Draft.{Text, start, with_reading, told, line_ended, byte_taken, text_taken, closed, day_told}
 
@@ -96,11 +96,11 @@ frame_told e now c w = ap frame_line (frame_good e now w) ∙ frame_sound (Good 
 
 -- nothing is written before the first event, and from there on what is written is a day
 abbrev pub day_out : Heading → List Frame → List ℕ
-day_out h fs = when h.is_begun then day_text h.options fs else []
+day_out h fs = when h.is_begun then day_text (options_of h) fs else []
 
 pub record Sound (s : Text) : Type 0 where
   pub place : Fits s.reading.place
-  pub storable : Storable s.heading.options
+  pub storable : Storable (options_of s.heading)
   pub writable : AllWritable s.frames
   pub sound : any? malformed s.frames ≡ false
   pub first : s.heading.is_begun ≡ false → s.frames ≡ []
@@ -136,24 +136,24 @@ module _ (h : Heading) (n : ℕ) where
   setting_begun Minimum = refl
   setting_begun MaxConnecting = refl
 
-  setting_storable : (s : Setting) → Storable h.options → n < 4294967296 → Storable (with_setting h s n).options
+  setting_storable : (s : Setting) → Storable (options_of h) → n < 4294967296 → Storable (options_of (with_setting h s n))
   setting_storable Maximum k l = record { maximum = l; minimum = k.minimum; connecting = k.connecting; idle = k.idle }
   setting_storable Minimum k l = record { maximum = k.maximum; minimum = l; connecting = k.connecting; idle = k.idle }
   setting_storable MaxConnecting k l = record { maximum = k.maximum; minimum = k.minimum; connecting = l; idle = k.idle }
 
-  idle_storable : Storable h.options → n < 18446744073709551616 → Storable (with_idle h n).options
+  idle_storable : Storable (options_of h) → n < 18446744073709551616 → Storable (options_of (with_idle h n))
   idle_storable k l = record { maximum = k.maximum; minimum = k.minimum; connecting = k.connecting; idle = l }
 
 module _ (s : Text) (k : Sound s) where
   abbrev h : Heading
   h = s.heading
 
-  text_closed : s.out ++ first_line h ≡ day_text h.options s.frames
-  text_closed = out_closed h.is_begun h.options s.frames s.out k.first k.out
+  text_closed : s.out ++ first_line h ≡ day_text (options_of h) s.frames
+  text_closed = out_closed h.is_begun (options_of h) s.frames s.out k.first k.out
 
   -- a line that tells no event
-  quiet : (x : Text) → x.reading ≡ begun → x.frames ≡ s.frames ++ [] → x.out ≡ s.out ++ [] → Storable x.heading.options
-      → x.heading.is_begun ≡ h.is_begun → (h.is_begun ≡ true → x.heading.options ≡ h.options) → Sound x
+  quiet : (x : Text) → x.reading ≡ begun → x.frames ≡ s.frames ++ [] → x.out ≡ s.out ++ [] → Storable (options_of x.heading)
+      → x.heading.is_begun ≡ h.is_begun → (h.is_begun ≡ true → options_of x.heading ≡ options_of h) → Sound x
   quiet x a b c d e g =
       let i : x.frames ≡ s.frames = b ∙ append-nil s.frames in
       record {
@@ -162,8 +162,8 @@ module _ (s : Text) (k : Sound s) where
         writable = subst AllWritable (sym i) k.writable;
         sound = ap (any? malformed) i ∙ k.sound;
         first = λ z. i ∙ k.first (sym e ∙ z);
-        out = c ∙ append-nil s.out ∙ k.out ∙ out_options h.is_begun h.options x.heading.options s.frames g
-            ∙ ap (λ (b : Bool). when b then day_text x.heading.options s.frames else []) (sym e) ∙ ap (day_out x.heading) (sym i);
+        out = c ∙ append-nil s.out ∙ k.out ∙ out_options h.is_begun (options_of h) (options_of x.heading) s.frames g
+            ∙ ap (λ (b : Bool). when b then day_text (options_of x.heading) s.frames else []) (sym e) ∙ ap (day_out x.heading) (sym i);
       }
 
   told_nothing : Sound (told s (heard h tells.Nothing))
@@ -172,14 +172,14 @@ module _ (s : Text) (k : Sound s) where
   told_mistake : (x : Expected) → Sound (told s (heard h (tells.Mistake x)))
   told_mistake x = quiet (told s (heard h (tells.Mistake x))) refl refl refl k.storable refl (λ z. refl)
 
-  option_cases : (b given : Bool) (g : Heading) → h.is_begun ≡ b → Storable g.options → g.is_begun ≡ h.is_begun
+  option_cases : (b given : Bool) (g : Heading) → h.is_begun ≡ b → Storable (options_of g) → g.is_begun ≡ h.is_begun
       → Sound (told s (when b then heard h (tells.Mistake NoOption) else when given then heard h (tells.Mistake OtherOption) else heard g tells.Nothing))
   unfolding when◌then◌else◌
   option_cases true given g q d e = told_mistake NoOption
   option_cases false true g q d e = told_mistake OtherOption
   option_cases false false g q d e = quiet (told s (heard g tells.Nothing)) refl refl refl d e (λ z. absurd (false≢true (sym q ∙ z)))
 
-  told_option : (given : Bool) (g : Heading) → Storable g.options → g.is_begun ≡ h.is_begun → Sound (told s (option h given g))
+  told_option : (given : Bool) (g : Heading) → Storable (options_of g) → g.is_begun ≡ h.is_begun → Sound (told s (option h given g))
   told_option given g d e = option_cases h.is_begun given g refl d e
 
   told_event : (now : ℕ) (e : Event) → (causeless e ≡ false) × Writable e now → Sound (told s (heard (with_event h) (tells.Event now e)))
@@ -193,13 +193,13 @@ module _ (s : Text) (k : Sound s) where
         sound = sound_more s.frames (Good e now) k.sound w.0;
         first = λ z. absurd (true≢false z);
         out = sym (append_assoc s.out (first_line h) (frame_line f)) ∙ ap (λ (l : List ℕ). l ++ frame_line f) text_closed
-            ∙ ap (λ (l : List ℕ). day_text h.options s.frames ++ l) (frame_told e now w.0 w.1) ∙ day_more h.options s.frames (Good e now);
+            ∙ ap (λ (l : List ℕ). day_text (options_of h) s.frames ++ l) (frame_told e now w.0 w.1) ∙ day_more (options_of h) s.frames (Good e now);
       }
 
   told_said : (p : Place) → Fits p → (l : Said) → says p ≡ l → Sound (told s (hears h l))
   told_said p f line.Nothing q = told_nothing
   told_said p f (line.Option i n) q = told_option (has h i) (with_setting h i n) (setting_storable h n i k.storable (fits_option_says p f q)) (setting_begun h n i)
-  told_said p f (line.IdleLimit n) q = told_option h.has_idle (with_idle h n) (idle_storable h n k.storable (fits_idle_says p f q)) refl
+  told_said p f (line.IdleLimit n) q = told_option (is_some h.idle) (with_idle h n) (idle_storable h n k.storable (fits_idle_says p f q)) refl
   told_said p f (line.Event t e) q = told_event t e (fits_says p f q)
   told_said p f (line.Mistake x) q = told_mistake x
 
@@ -230,8 +230,8 @@ sound_text s (c ∷ t) k = sound_text (byte_taken s c) t (sound_byte s c k)
 
 -- what was written is the day of what was told, and a day can hold all of it
 pub record TellsDay (s : Text) : Type 0 where
-  pub out : s.out ≡ day_text s.heading.options s.frames
-  pub storable : Storable s.heading.options
+  pub out : s.out ≡ day_text (options_of s.heading) s.frames
+  pub storable : Storable (options_of s.heading)
   pub writable : AllWritable s.frames
   pub sound : any? malformed s.frames ≡ false
 
@@ -246,18 +246,18 @@ module _ (t : List ℕ) where
       sound_closed (line_ended s) (sound_ended s (sound_text start t sound_start))
 
   -- read, it gives back what was told
-  pub told_read : DayRead (day_told t).out (day_told t).heading.options (day_told t).frames
+  pub told_read : DayRead (day_told t).out (options_of (day_told t).heading) (day_told t).frames
   told_read =
       let s : Text = day_told t in
       let d : TellsDay s = day_told_lem in
-      subst (λ (l : List ℕ). DayRead l s.heading.options s.frames) (sym d.out) (day_written_read s.heading.options s.frames d.storable d.writable)
+      subst (λ (l : List ℕ). DayRead l (options_of s.heading) s.frames) (sym d.out) (day_written_read (options_of s.heading) s.frames d.storable d.writable)
 
   -- and where there is room the writer writes the same
   pub told_written : (room : ℕ) → day_line_length * (length (day_told t).frames + 1) ≤ room
-      → write_day room (day_told t).heading.options (day_told t).frames ≡ Written (day_told t).out
+      → write_day room (options_of (day_told t).heading) (day_told t).frames ≡ Written (day_told t).out
   unfolding write_day
   told_written room h =
       let s : Text = day_told t in
       let d : TellsDay s = day_told_lem in
-      ap (λ (r : Option Refusal). unless r (day_text s.heading.options s.frames)) (all_pass room (length s.frames + 1) s.frames h d.sound)
+      ap (λ (r : Option Refusal). unless r (day_text (options_of s.heading) s.frames)) (all_pass room (length s.frames + 1) s.frames h d.sound)
       ∙ ap Written (sym d.out)

@@ -1,13 +1,14 @@
 -- One law for each exit, over variables.
-use Rattle.std.specs.Prelude.{◌≡◌, refl, true, false, ℕ, zero, suc, ◌+◌, ◌-◌, ◌≤◌, ◌<◌, length, take, drop, get_or}
-use Rattle.std.proofs.Common.{sym, ◌∙◌, arith, eq-eqb, eqb-true, length-append, length-drop, length-take, take-add, take-take}
+use Rattle.std.specs.Prelude.{◌≡◌, refl, true, false, ℕ, zero, suc, ◌+◌, ◌-◌, ◌≤◌, ◌<◌, min, length, take, drop, get_or}
+use Rattle.std.proofs.Common.{sym, ◌∙◌, arith, eq-eqb, eqb-true, length-append, length-drop, length-take, take-add, take-take, lt-ltb, le-ltb}
 use Rattle.std.proofs.Math.Path.{ap, subst}
 use Rattle.std.proofs.lemmas.Bool.{false≢true}
 use mathlib.Core.List.{List, [], ◌∷◌, ◌++◌, append_assoc, append-nil}
 use Rattle.definition.specs.Words.{when◌then◌else◌, ◌=?◌}
-use Rattle.definition.specs.Booleans.{by_bool, by_eq}
+use Rattle.definition.specs.Booleans.{by_bool, by_eq, by_lt}
 use Rattle.definition.specs.Bytes.{newline}
 use Rattle.newlines.specs.Newlines.{line_len, len_true, len_false, len_positive, len_low}
+use Rattle.spelling.specs.Spelling.{most}
 use Rattle.notation.specs.declared.Said.{Said}
 use Rattle.notation.specs.Notation.{says}
 use Rattle.heading.specs.declared.Heading.{Heading}
@@ -17,34 +18,38 @@ use Rattle.heading.specs.declared.Told.TheVariants as tells
 use Rattle.heading.specs.Heading.{blank, hears}
 use Rattle.wording.specs.declared.Line.{Line}
 use Rattle.wording.specs.Wording.{Reading, begun, reads, read_all, ended}
-use Rattle.wording.specs.Held.{view_of, Stands}
+use Rattle.wording.specs.Held.{view_of}
 use Rattle.draft.specs.declared.Draft.{Draft}
 use Rattle.draft.specs.declared.Step.{Step}
 use Rattle.laying.specs.Laying.{first_line, written, line_room, Lays}
 use Rattle.laying.specs.Laws.{first_length, written_length, lays_nothing, lays_both, lays_length}
 use Rattle.draft.specs.Draft.{Text, with_reading, told, Fault, faults_told, next_line, line_ended, byte_taken, text_taken, closed}
-use Rattle.draft.specs.Steps.{mistake?, text_of, paused, Ready, Begins, Leaves, Stepped, EndsLine, TakesLine, GoesOn, Finishes}
+use Rattle.draft.specs.Steps.{mistake?, text_of, paused, Begins, Leaves, Stepped, EndsLine, TakesLine, GoesOn, Finishes}
 
 -- ── A line ─────────────────────────────────────────────────────────────────────────────────────────────────────────────────
 
-pub begins : (l : Line) (h : Heading) → Stands l begun → h ≡ blank → Begins (record { line = l; number = 1; heading = h })
-begins l h s e = record { ready = s.held; is = rw (e, s.is) }
+pub begins : (l : Line) (h : Heading) → view_of l ≡ begun → h ≡ blank → Begins (record { line = l; number = 1; heading = h })
+begins l h s e = record { is = rw (e, s) }
+
+pub counted : (n i : ℕ) → n < 18446744073709551616 → i ≡ min (n + 1) most → i ≡ next_line n
+unfolding when◌then◌else◌
+counted n i h e =
+    by_lt n most (λ l. rw (lt-ltb n most l) (omega (arith, e))) (λ l. rw (le-ltb n most l) (omega (arith, e)))
 
 -- a line ends: it was closed, heard and laid, and the next begins
-pub line_ends : (d : Draft) (l b : Line) (s : Said) (k : Heard) (n m i : ℕ) (lent left : List ℕ) → Stands l (ended (view_of d.line)) → s ≡ says l.place → k ≡ hears d.heading s
-    → Lays (written d.heading k.told) lent n left → Stands b begun → i ≡ next_line d.number
+pub line_ends : (d : Draft) (l b : Line) (s : Said) (k : Heard) (n m i : ℕ) (lent left : List ℕ) → view_of l ≡ ended (view_of d.line) → s ≡ says l.place → k ≡ hears d.heading s
+    → Lays (written d.heading k.told) lent n left → view_of b ≡ begun → i ≡ next_line d.number
     → EndsLine d m lent (record { draft = record { line = b; number = i; heading = k.heading }; read = m; written = n; told = k.told; ended = l; number = d.number }) left
 unfolding line_ended
 line_ends d l b s k n m i lent left a e f w g j =
     let h : Heading = d.heading in
     let r : Reading = ended (view_of d.line) in
-    let p : l.place ≡ r.place = ap (λ (x : Reading). x.place) a.is in
+    let p : l.place ≡ r.place = ap (λ (x : Reading). x.place) a in
     let q : k ≡ hears h (says r.place) = f ∙ ap (hears h) (e ∙ ap says p) in
     record {
       read = refl;
       leaves = record {
-        ready = g.held;
-        reading = g.is;
+        reading = g;
         line = j;
         heading = ap (λ (x : Heard). x.heading) q;
         mistakes = ap (λ (x : Heard). faults_told d.number x.told) q;
@@ -123,29 +128,29 @@ module _ (d : Draft) (text lent left : List ℕ) (n : ℕ) (e : n ≡ line_len t
   abbrev pub further : Draft
   further = record { line = l; number = d.number; heading = d.heading }
 
-  pub line_taken : (r : Step) → 1 ≤ n → get_or text (n - 1) 0 ≡ newline → Stands l (read_all (view_of d.line) (take (n - 1) text)) → EndsLine further n lent r left → TakesLine d text lent r left
+  pub line_taken : (r : Step) → 1 ≤ n → get_or text (n - 1) 0 ≡ newline → view_of l ≡ read_all (view_of d.line) (take (n - 1) text) → EndsLine further n lent r left → TakesLine d text lent r left
   line_taken r h g s k =
       let m : line_len text ≡ suc (n - 1) = omega (arith, e) in
       let c : suc (n - 1) ≡ n = omega arith in
       let q : text_taken (text_of d) (take n text) ≡ line_ended (text_of further) =
       ap (λ (i : ℕ). text_taken (text_of d) (take i text)) (sym c) ∙ taken_line (text_of d) text (n - 1) m g
-      ∙ ap (λ (x : Reading). line_ended (with_reading (text_of d) x)) (sym s.is) in
+      ∙ ap (λ (x : Reading). line_ended (with_reading (text_of d) x)) (sym s) in
       record {
         read = k.read ∙ e;
         small = omega (arith, k.leaves.laid.count, ended_length further);
         leaves = subst (λ (x : Text). Stepped x lent r left) (sym (ap (λ (i : ℕ). text_taken (text_of d) (take i text)) k.read ∙ q)) k.leaves;
       }
 
-  pub part_taken : (get_or text (n - 1) 0 ≡ newline → ⊥) → Stands l (read_all (view_of d.line) (take n text)) → (r : Step) → r ≡ paused further n 0 → TakesLine d text lent r lent
+  pub part_taken : (get_or text (n - 1) 0 ≡ newline → ⊥) → view_of l ≡ read_all (view_of d.line) (take n text) → (r : Step) → r ≡ paused further n 0 → TakesLine d text lent r lent
   part_taken g s r z =
       let q : text_taken (text_of d) (take n text) ≡ text_of further =
       subst (λ (i : ℕ). text_taken (text_of d) (take i text) ≡ with_reading (text_of d) (read_all (view_of d.line) (take i text))) (sym e)
-      (taken_part (text_of d) text (λ y. g (ap (λ (i : ℕ). get_or text (i - 1) 0) e ∙ y))) ∙ ap (with_reading (text_of d)) (sym s.is) in
+      (taken_part (text_of d) text (λ y. g (ap (λ (i : ℕ). get_or text (i - 1) 0) e ∙ y))) ∙ ap (with_reading (text_of d)) (sym s) in
       rw z (record {
         read = e;
         small = omega arith;
         leaves = subst (λ (x : Text). Leaves x further [] lent 0 lent) (sym q)
-            (record { ready = s.held; reading = refl; line = refl; heading = refl; mistakes = refl; laid = lays_nothing lent });
+            (record { reading = refl; line = refl; heading = refl; mistakes = refl; laid = lays_nothing lent });
       })
 
 -- ── Pieces ─────────────────────────────────────────────────────────────────────────────────────────────────────────────────
@@ -221,7 +226,6 @@ module _ (s : Text) (d : Draft) (m : List Fault) (lent : List ℕ) (n : ℕ) (le
   leaves_on : (x b : Text) (e : Draft) (i : List Fault) (j : ℕ) (y : List ℕ) → Ahead s.out s.mistakes x b → Leaves b e i (take (length left - n) (drop n left)) j y
       → Leaves x e (m ++ i) lent (n + j) (take n left ++ (y ++ drop (length left - n) (drop n left)))
   leaves_on x b e i j y a g = record {
-    ready = g.ready;
     reading = g.reading ∙ sym a.reading;
     line = g.line ∙ sym a.line;
     heading = g.heading ∙ sym a.heading;
@@ -246,7 +250,7 @@ end_left d lent r left k g =
 
 pub finished : (d : Draft) (lent : List ℕ) (r : Step) (left y : List ℕ) (m : ℕ) → EndsLine d 0 lent r left
     → Lays (first_line r.draft.heading) (take (length left - r.written) (drop r.written left)) m y
-    → Finishes d lent (record { draft = r.draft; read = 0; written = r.written + m; told = r.told; ended = r.ended; number = r.number })
+    → Finishes d lent (record { draft = r.draft; read = r.read; written = r.written + m; told = r.told; ended = r.ended; number = r.number })
     (take r.written left ++ (y ++ drop (length left - r.written) (drop r.written left)))
 finished d lent r left y m k f =
     let g = k.leaves in
@@ -254,7 +258,6 @@ finished d lent r left y m k f =
     record {
       few = omega (arith, g.laid.count, ended_length d, f.count, first_length r.draft.heading);
       leaves = record {
-        ready = g.ready;
         reading = g.reading;
         line = g.line;
         heading = g.heading;
@@ -282,14 +285,14 @@ pub record Going (d₀ : Draft) (text out₀ out : List ℕ) (d : Draft) (at w :
   pub fresh : at ≡ 0 → w ≡ 0
   pub leaves : Leaves (text_taken (text_of d₀) (take at text)) d [] out₀ w out
 
-pub going_start : (d : Draft) (text out : List ℕ) → Ready d → Going d text out out d 0 0
+pub going_start : (d : Draft) (text out : List ℕ) → Going d text out out d 0 0
 unfolding text_taken
-going_start d text out h = record {
+going_start d text out = record {
   within = omega arith;
   fits = omega arith;
   long = refl;
   fresh = λ e. refl;
-  leaves = record { ready = h; reading = refl; line = refl; heading = refl; mistakes = refl; laid = lays_nothing out };
+  leaves = record { reading = refl; line = refl; heading = refl; mistakes = refl; laid = lays_nothing out };
 }
 
 module _ (d₀ : Draft) (text out₀ out : List ℕ) (d : Draft) (at w : ℕ) (g : Going d₀ text out₀ out d at w) where

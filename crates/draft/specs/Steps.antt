@@ -4,7 +4,7 @@ use Rattle.definition.specs.Bytes.{day_line_length}
 use Rattle.heading.specs.declared.Told.{Told}
 use Rattle.heading.specs.declared.Told.TheVariants as tells
 use Rattle.newlines.specs.Newlines.{line_len}
-use Rattle.wording.specs.Held.{Held, view_of}
+use Rattle.wording.specs.Held.{view_of}
 use Rattle.draft.specs.declared.Draft.{Draft}
 use Rattle.draft.specs.declared.Step.{Step}
 use Rattle.laying.specs.Laying.{line_room, Lays}
@@ -23,16 +23,11 @@ end_room = 3 * day_line_length
 abbrev pub text_of : Draft → Text
 text_of d = record { reading = view_of d.line; line = d.number; heading = d.heading; frames = []; mistakes = []; out = [] }
 
-abbrev pub Ready : Draft → Type 0
-Ready d = Held d.line
-
 pub record Begins (d : Draft) : Type 0 where
-  pub ready : Ready d
   pub is : text_of d ≡ start
 
 -- the text s is left as this day under way, with these mistakes, and its bytes at the front of what was lent
 pub record Leaves (s : Text) (d : Draft) (m : List Fault) (lent : List ℕ) (n : ℕ) (left : List ℕ) : Type 0 where
-  pub ready : Ready d
   pub reading : view_of d.line ≡ s.reading
   pub line : d.number ≡ s.line
   pub heading : d.heading ≡ s.heading

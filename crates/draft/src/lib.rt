@@ -4,7 +4,7 @@
 ghost use Rattle.std.specs.Prelude.{◌≡◌, ◌≤◌, ◌<◌, length};
 ghost use Rattle.laying.specs.Laying.{line_room};
 ghost use Rattle.draft.specs.Draft.{next_line};
-ghost use Rattle.draft.specs.Steps.{paused, mistake?, end_room, Ready, Begins, EndsLine, TakesLine, GoesOn, Finishes};
+ghost use Rattle.draft.specs.Steps.{paused, mistake?, end_room, Begins, EndsLine, TakesLine, GoesOn, Finishes};
 
 use definition::DAY_LINE;
 use heading::{Heading, Told};
@@ -46,37 +46,28 @@ pub fn begin() -> Draft
 fn next_line(n: u64) -> u64
     ensures { result ≡ next_line n }
 {
-    if n < u64::MAX {
-        return n + 1;
-    }
-    n
+    n.saturating_add(1)
 }
 
 // The line ends, of which so many bytes were read here.
 fn end_line(d: Draft, read: usize, out: &mut [u8]) -> Step
-    requires { Ready d × (line_room ≤ length out.old) }
+    requires { line_room ≤ length out.old }
     ensures { EndsLine d read out.old result out.new }
 {
-    let under_way = d.line;
-    let h = d.heading;
-    let number = d.number;
-    let l = wording::end(under_way);
-    let p = l.place;
-    let k = heading::hear(h, grammar::says(p));
-    let t = k.told;
-    let next = k.heading;
-    let n = laying::lay(h, t, out);
+    let ended = wording::end(d.line);
+    let heard = heading::hear(d.heading, grammar::says(ended.place));
+    let written = laying::lay(d.heading, heard.told, out);
     Step {
         draft: Draft {
             line: wording::begin(),
-            number: next_line(number),
-            heading: next,
+            number: next_line(d.number),
+            heading: heard.heading,
         },
-        read: read,
-        written: n,
-        told: t,
-        ended: l,
-        number: number,
+        read,
+        written,
+        told: heard.told,
+        ended,
+        number: d.number,
     }
 }
 
@@ -84,62 +75,44 @@ fn end_line(d: Draft, read: usize, out: &mut [u8]) -> Step
 fn paused(d: Draft, read: usize, written: usize) -> Step
     ensures { result ≡ paused d read written }
 {
-    let line = d.line;
     Step {
         draft: d,
-        read: read,
-        written: written,
+        read,
+        written,
         told: Told::Nothing,
-        ended: line,
+        ended: d.line,
         number: d.number,
     }
 }
 
 // The text's next line, or as much of it as there is.
 fn take_line(d: Draft, text: &[u8], out: &mut [u8]) -> Step
-    requires { Ready d × (0 < length text.now) × (line_room ≤ length out.old) }
+    requires { (0 < length text.now) × (line_room ≤ length out.old) }
     ensures { TakesLine d text.now out.old result out.new }
 {
-    let line = d.line;
-    let h = d.heading;
-    let number = d.number;
     let e = newlines::line_end(text, 0);
-    if text[e - 1] == 10 {
-        let l = wording::read_bytes(line, &text[..e - 1]);
-        let whole = Draft {
-            line: l,
-            number: number,
-            heading: h,
-        };
-        return end_line(whole, e, out);
+    if text[e - 1] == b'\n' {
+        let line = wording::read_bytes(d.line, &text[..e - 1]);
+        return end_line(Draft { line, ..d }, e, out);
     }
-    let l = wording::read_bytes(line, &text[..e]);
-    let part = Draft {
-        line: l,
-        number: number,
-        heading: h,
-    };
-    paused(part, e, 0)
+    let line = wording::read_bytes(d.line, &text[..e]);
+    paused(Draft { line, ..d }, e, 0)
 }
 
 fn is_mistake(t: Told) -> bool
     ensures { result ≡ mistake? t }
 {
-    match t {
-        Told::Nothing => false,
-        Told::Event(_, _) => false,
-        Told::Mistake(_) => true,
-    }
+    matches!(t, Told::Mistake(_))
 }
 
 // As much of the text as there is room for, up to a mistake.
 pub fn go_on(d: Draft, text: &[u8], out: &mut [u8]) -> Step
-    requires { Ready d }
     ensures { GoesOn d text.now out.old result out.new }
 {
     let mut draft = d;
-    let mut at: usize = 0;
-    let mut w: usize = 0;
+    let mut at = 0;
+    let mut w = 0;
+    // Only the step says how much it reads, so no iterator gives the lines.
     while at < text.len() {
         if out.len() - w < LINE_ROOM {
             return paused(draft, at, w);
@@ -148,16 +121,11 @@ pub fn go_on(d: Draft, text: &[u8], out: &mut [u8]) -> Step
         draft = s.draft;
         at += s.read;
         w += s.written;
-        let t = s.told;
-        let ended = s.ended;
-        if is_mistake(t) {
+        if is_mistake(s.told) {
             return Step {
-                draft: draft,
                 read: at,
                 written: w,
-                told: t,
-                ended: ended,
-                number: s.number,
+                ..s
             };
         }
     }
@@ -166,22 +134,13 @@ pub fn go_on(d: Draft, text: &[u8], out: &mut [u8]) -> Step
 
 // The text's end: that of its last line, and the options' line where no event has come.
 pub fn finish(d: Draft, out: &mut [u8]) -> Step
-    requires { Ready d × (end_room ≤ length out.old) }
+    requires { end_room ≤ length out.old }
     ensures { Finishes d out.old result out.new }
 {
     let s = end_line(d, 0, out);
-    let e = s.draft;
-    let k = e.heading;
-    let n = s.written;
-    let m = laying::lay_first(k, &mut out[n..]);
-    let t = s.told;
-    let ended = s.ended;
+    let m = laying::lay_first(s.draft.heading, &mut out[s.written..]);
     Step {
-        draft: e,
-        read: 0,
-        written: n + m,
-        told: t,
-        ended: ended,
-        number: s.number,
+        written: s.written + m,
+        ..s
     }
 }

@@ -1,5 +1,5 @@
 // A line of a day in words, read word by word: where the reading stands behind one word more, and what a whole line says.
-#![tactic(auto)]
+#![tactic(auto, unfolding(notation::specs::Notation::start_takes))]
 
 ghost use Rattle.std.specs.Prelude.{◌≡◌};
 ghost use Rattle.notation.specs.Notation.{expected_at, start_takes, takes, says};
@@ -14,18 +14,16 @@ pub fn expected_at(p: Place) -> Expected
     match p {
         Place::Start => Expected::TimeOrOption,
         Place::Value(_) => Expected::Value,
-        Place::Set(_, _) => Expected::End,
         Place::IdleLimit => Expected::IdleLimit,
-        Place::IdleSet(_) => Expected::End,
         Place::Kind(_) => Expected::Kind,
         Place::Id(_, n) => notation::expected_of(n),
         Place::Cause(_) => Expected::Cause,
-        Place::Marks(_, _, _, _) => Expected::MarkOrLetGo,
-        Place::LetGo(_, _, _, _) => Expected::LetGo,
-        Place::Timeout(_, _) => Expected::TimeoutOrEnd,
-        Place::Opened(_, _) => Expected::OpenedOrEnd,
-        Place::OpenedAt(_, _) => Expected::Opened,
-        Place::Whole(_, _) => Expected::End,
+        Place::Marks(..) => Expected::MarkOrLetGo,
+        Place::LetGo(..) => Expected::LetGo,
+        Place::Timeout(..) => Expected::TimeoutOrEnd,
+        Place::Opened(..) => Expected::OpenedOrEnd,
+        Place::OpenedAt(..) => Expected::Opened,
+        Place::Set(..) | Place::IdleSet(_) | Place::Whole(..) => Expected::End,
         Place::Wrong(x) => x,
     }
 }
@@ -33,11 +31,10 @@ pub fn expected_at(p: Place) -> Expected
 fn start_takes(w: &[u8]) -> Place
     ensures { result ≡ start_takes w.now }
 {
-    let n = notation::number_up_to(18446744073709551615, w);
-    if n.good {
-        return Place::Kind(n.value);
+    match notation::number_up_to(u64::MAX, w) {
+        Some(time) => Place::Kind(time),
+        None => naming::option_named(w),
     }
-    naming::option_named(w)
 }
 
 // Where the reading stands behind one word more.
@@ -47,9 +44,7 @@ pub fn takes(p: Place, w: &[u8]) -> Place
     match p {
         Place::Start => start_takes(w),
         Place::Value(s) => notation::value_takes(s, w),
-        Place::Set(_, _) => Place::Wrong(Expected::End),
         Place::IdleLimit => notation::idle_takes(w),
-        Place::IdleSet(_) => Place::Wrong(Expected::End),
         Place::Kind(time) => naming::kind_takes(time, w),
         Place::Id(time, n) => notation::id_takes(time, n, w),
         Place::Cause(time) => notation::cause_takes(time, w),
@@ -62,7 +57,7 @@ pub fn takes(p: Place, w: &[u8]) -> Place
         Place::Timeout(time, cause) => notation::timeout_takes(time, cause, w),
         Place::Opened(time, id) => notation::opened_takes(time, id, w),
         Place::OpenedAt(time, id) => notation::opened_at_takes(time, id, w),
-        Place::Whole(_, _) => Place::Wrong(Expected::End),
+        Place::Set(..) | Place::IdleSet(_) | Place::Whole(..) => Place::Wrong(Expected::End),
         Place::Wrong(x) => Place::Wrong(x),
     }
 }
@@ -78,14 +73,6 @@ pub fn says(p: Place) -> Said
         Place::Timeout(time, cause) => Said::Event(time, Event::Clear(false, cause)),
         Place::Opened(time, id) => Said::Event(time, Event::Succeeded(id)),
         Place::Whole(time, e) => Said::Event(time, e),
-        Place::Value(_) => Said::Mistake(expected_at(p)),
-        Place::IdleLimit => Said::Mistake(expected_at(p)),
-        Place::Kind(_) => Said::Mistake(expected_at(p)),
-        Place::Id(_, _) => Said::Mistake(expected_at(p)),
-        Place::Cause(_) => Said::Mistake(expected_at(p)),
-        Place::Marks(_, _, _, _) => Said::Mistake(expected_at(p)),
-        Place::LetGo(_, _, _, _) => Said::Mistake(expected_at(p)),
-        Place::OpenedAt(_, _) => Said::Mistake(expected_at(p)),
-        Place::Wrong(_) => Said::Mistake(expected_at(p)),
+        _ => Said::Mistake(expected_at(p)),
     }
 }

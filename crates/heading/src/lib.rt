@@ -1,21 +1,34 @@
 // The heading of a day in words: its options so far, and what a line more leaves and tells.
-#![tactic(auto)]
+#![tactic(auto, using(notation::specs::Laws::picked, notation::specs::Laws::passed))]
 
 ghost use Rattle.std.specs.Prelude.{◌≡◌};
-ghost use Rattle.heading.specs.Heading.{blank, has, with_setting, with_idle, with_event, option, hears};
+ghost use Rattle.heading.specs.Heading.{options_of, blank, has, with_setting, option, hears};
 
 use definition::{Event, Options};
 use notation::{Expected, Said, Setting};
 
-// The options so far, which of them were given, and whether an event has come.
+// The options given so far, and whether an event has come.
 #[derive(Clone, Copy)]
 pub struct Heading {
-    pub options: Options,
-    pub has_maximum: bool,
-    pub has_minimum: bool,
-    pub has_connecting: bool,
-    pub has_idle: bool,
+    pub maximum: Option<u32>,
+    pub minimum: Option<u32>,
+    pub connecting: Option<u32>,
+    pub idle: Option<u64>,
     pub is_begun: bool,
+}
+
+impl Heading {
+    // One that is not given is 0.
+    pub fn options(&self) -> Options
+        ensures { result ≡ options_of self.now }
+    {
+        Options {
+            maximum: self.maximum.unwrap_or(0),
+            minimum: self.minimum.unwrap_or(0),
+            connecting: self.connecting.unwrap_or(0),
+            idle: self.idle.unwrap_or(0),
+        }
+    }
 }
 
 // What a line tells.
@@ -26,21 +39,15 @@ pub enum Told {
     Mistake(Expected),
 }
 
-// Before the first line: options that are not given are 0.
+// Before the first line.
 pub fn blank() -> Heading
     ensures { result ≡ blank }
 {
     Heading {
-        options: Options {
-            maximum: 0,
-            minimum: 0,
-            connecting: 0,
-            idle: 0,
-        },
-        has_maximum: false,
-        has_minimum: false,
-        has_connecting: false,
-        has_idle: false,
+        maximum: None,
+        minimum: None,
+        connecting: None,
+        idle: None,
         is_begun: false,
     }
 }
@@ -51,48 +58,29 @@ fn has(h: Heading, s: Setting) -> bool
     ensures { result ≡ has h s }
 {
     match s {
-        Setting::Maximum => h.has_maximum,
-        Setting::Minimum => h.has_minimum,
-        Setting::MaxConnecting => h.has_connecting,
+        Setting::Maximum => h.maximum.is_some(),
+        Setting::Minimum => h.minimum.is_some(),
+        Setting::MaxConnecting => h.connecting.is_some(),
     }
 }
 
 fn with_setting(h: Heading, s: Setting, n: u32) -> Heading
     ensures { result ≡ with_setting h s n }
 {
-    let mut r = h;
     match s {
-        Setting::Maximum => {
-            r.options.maximum = n;
-            r.has_maximum = true;
-        }
-        Setting::Minimum => {
-            r.options.minimum = n;
-            r.has_minimum = true;
-        }
-        Setting::MaxConnecting => {
-            r.options.connecting = n;
-            r.has_connecting = true;
-        }
+        Setting::Maximum => Heading {
+            maximum: Some(n),
+            ..h
+        },
+        Setting::Minimum => Heading {
+            minimum: Some(n),
+            ..h
+        },
+        Setting::MaxConnecting => Heading {
+            connecting: Some(n),
+            ..h
+        },
     }
-    r
-}
-
-fn with_idle(h: Heading, n: u64) -> Heading
-    ensures { result ≡ with_idle h n }
-{
-    let mut r = h;
-    r.options.idle = n;
-    r.has_idle = true;
-    r
-}
-
-fn with_event(h: Heading) -> Heading
-    ensures { result ≡ with_event h }
-{
-    let mut r = h;
-    r.is_begun = true;
-    r
 }
 
 // What a line leaves, and what it tells.
@@ -107,20 +95,20 @@ fn option(h: Heading, is_given: bool, next: Heading) -> Heard
     ensures { result ≡ option h is_given next }
 {
     if h.is_begun {
-        return Heard {
+        Heard {
             heading: h,
             told: Told::Mistake(Expected::NoOption),
-        };
-    }
-    if is_given {
-        return Heard {
+        }
+    } else if is_given {
+        Heard {
             heading: h,
             told: Told::Mistake(Expected::OtherOption),
-        };
-    }
-    Heard {
-        heading: next,
-        told: Told::Nothing,
+        }
+    } else {
+        Heard {
+            heading: next,
+            told: Told::Nothing,
+        }
     }
 }
 
@@ -133,9 +121,12 @@ pub fn hear(h: Heading, s: Said) -> Heard
             told: Told::Nothing,
         },
         Said::Option(o, n) => option(h, has(h, o), with_setting(h, o, n)),
-        Said::IdleLimit(n) => option(h, h.has_idle, with_idle(h, n)),
+        Said::IdleLimit(n) => option(h, h.idle.is_some(), Heading { idle: Some(n), ..h }),
         Said::Event(time, e) => Heard {
-            heading: with_event(h),
+            heading: Heading {
+                is_begun: true,
+                ..h
+            },
             told: Told::Event(time, e),
         },
         Said::Mistake(x) => Heard {

@@ -12,10 +12,12 @@ use Rattle.definition.specs.declared.Event.{Event}
 use Rattle.definition.specs.declared.Frame.{Frame}
 use Rattle.definition.specs.declared.Options.{Options}
 use Rattle.big_endian.specs.Laws.{tail_more}
-use Rattle.writing.specs.declared.Written.{Written}
+use Rattle.std.specs.Prelude.{Result}
+use Rattle.definition.specs.declared.Refusal.{Refusal}
 use Rattle.writing.specs.Writes.{Writes}
 use Rattle.heading.specs.declared.Heading.{Heading}
 use Rattle.heading.specs.declared.Told.{Told}
+use Rattle.heading.specs.Heading.{options_of}
 use Rattle.heading.specs.declared.Told.TheVariants as tells
 use Rattle.laying.specs.Laying.{first_line, frame_line, written, Lays, bytes_in}
 
@@ -25,7 +27,7 @@ first_cases true l e = omega arith
 first_cases false l e = omega arith
 
 pub first_length : (h : Heading) → length (first_line h) ≤ 49
-first_length h = first_cases h.is_begun (options_line h.options) (length_options h.options)
+first_length h = first_cases h.is_begun (options_line (options_of h)) (length_options (options_of h))
 
 frame_cases : (f : Frame) (b : Bool) → malformed f ≡ b → length (when b then [] else event_line f) ≤ 49
 unfolding when◌then◌else◌
@@ -50,7 +52,7 @@ text_in : Writing → List ℕ
 text_in (NotWritten r) = []
 text_in (Definition.Written t) = t
 
-writes_lays : (w : Writing) (l : List ℕ) (r : Written) (l' : List ℕ) (k : ℕ) → Writes w l r l' → k ≡ bytes_in r → Lays (text_in w) l k l'
+writes_lays : (w : Writing) (l : List ℕ) (r : Result ℕ Refusal) (l' : List ℕ) (k : ℕ) → Writes w l r l' → k ≡ bytes_in r → Lays (text_in w) l k l'
 unfolding text_in
 writes_lays (NotWritten r) l x l' k w e = record { count = e ∙ ap bytes_in w.answer; out = w.out }
 writes_lays (Definition.Written t) l x l' k w e = record { count = e ∙ ap bytes_in w.answer; out = w.out }
@@ -69,13 +71,13 @@ module _ (h : Heading) (l : List ℕ) where
   unfolding when◌then◌else◌
   first_none e = rw e (lays_nothing l)
 
-  pub first_laid : (r : Written) (l' : List ℕ) (k : ℕ) → h.is_begun ≡ false → 49 ≤ length l → Writes (write_options (length l) h.options) l r l' → k ≡ bytes_in r
-      → Lays (first_line h) l k l'
+  pub first_laid : (o : Options) (r : Result ℕ Refusal) (l' : List ℕ) (k : ℕ) → h.is_begun ≡ false → o ≡ options_of h → 49 ≤ length l → Writes (write_options (length l) o) l r l'
+      → k ≡ bytes_in r → Lays (first_line h) l k l'
   unfolding when◌then◌else◌
-  first_laid r l' k e g w n =
-      rw e (subst (λ (t : List ℕ). Lays t l k l') (options_text (length l) h.options g) (writes_lays (write_options (length l) h.options) l r l' k w n))
+  first_laid o r l' k e q g w n =
+      rw (e, ← q) (subst (λ (t : List ℕ). Lays t l k l') (options_text (length l) o g) (writes_lays (write_options (length l) o) l r l' k w n))
 
-pub event_laid : (e : Event) (t : ℕ) (b l : List ℕ) (r : Written) (l' : List ℕ) (k : ℕ) → b ≡ frame_bytes e t → 49 ≤ length l
+pub event_laid : (e : Event) (t : ℕ) (b l : List ℕ) (r : Result ℕ Refusal) (l' : List ℕ) (k : ℕ) → b ≡ frame_bytes e t → 49 ≤ length l
     → Writes (write_event (length l) (frame_of b)) l r l' → k ≡ bytes_in r → Lays (frame_line (frame_of (frame_bytes e t))) l k l'
 event_laid e t b l r l' k q g w n =
     let f : Frame = frame_of b in

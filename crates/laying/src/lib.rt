@@ -5,18 +5,14 @@ ghost use Rattle.std.specs.Prelude.{◌≡◌, ◌≤◌, length};
 ghost use Rattle.definition.specs.Bytes.{frame_bytes, frame_of};
 ghost use Rattle.laying.specs.Laying.{first_line, frame_line, written, line_room, Lays, bytes_in};
 
-use definition::Event;
+use definition::{Event, Refusal};
 use heading::{Heading, Told};
-use writing::Written;
 
 // How many bytes a writer wrote.
-fn count(w: Written) -> usize
+fn count(w: Result<usize, Refusal>) -> usize
     ensures { result ≡ bytes_in w }
 {
-    match w {
-        Written::Refused(_) => 0,
-        Written::Bytes(n) => n,
-    }
+    w.unwrap_or(0)
 }
 
 // The options' line, where no event has come.
@@ -27,7 +23,7 @@ pub fn lay_first(h: Heading, out: &mut [u8]) -> usize
     if h.is_begun {
         return 0;
     }
-    count(writing::write_options(h.options, out))
+    count(writing::write_options(h.options(), out))
 }
 
 // The line of an event.
@@ -45,11 +41,10 @@ pub fn lay(h: Heading, t: Told, out: &mut [u8]) -> usize
     ensures { Lays (written h t) out.old result out.new }
 {
     match t {
-        Told::Nothing => 0,
+        Told::Nothing | Told::Mistake(_) => 0,
         Told::Event(time, e) => {
             let n = lay_first(h, out);
             n + lay_event(time, e, &mut out[n..])
         }
-        Told::Mistake(_) => 0,
     }
 }

@@ -1,5 +1,5 @@
 // The names that a line of words may have: of options, and of events.
-#![tactic(auto)]
+#![tactic(auto, using(notation::specs::Laws::picked, notation::specs::Laws::passed), unfolding(notation::specs::Notation::option_named, notation::specs::Notation::naming_named, notation::specs::Notation::kind_takes))]
 
 ghost use Rattle.std.specs.Prelude.{◌≡◌};
 ghost use Rattle.notation.specs.Notation.{option_named, naming_named, kind_takes};
@@ -7,75 +7,52 @@ ghost use Rattle.notation.specs.Notation.{option_named, naming_named, kind_takes
 use definition::Event;
 use notation::{Expected, Naming, Place, Setting};
 
+const OPTIONS: [(&[u8], Place); 4] = [
+    (b"maximum", Place::Value(Setting::Maximum)),
+    (b"minimum", Place::Value(Setting::Minimum)),
+    (b"max-connecting", Place::Value(Setting::MaxConnecting)),
+    (b"idle-limit", Place::IdleLimit),
+];
+
 pub fn option_named(w: &[u8]) -> Place
     ensures { result ≡ option_named w.now }
 {
-    if check::same(w, b"maximum") {
-        return Place::Value(Setting::Maximum);
-    }
-    if check::same(w, b"minimum") {
-        return Place::Value(Setting::Minimum);
-    }
-    if check::same(w, b"max-connecting") {
-        return Place::Value(Setting::MaxConnecting);
-    }
-    if check::same(w, b"idle-limit") {
-        return Place::IdleLimit;
-    }
-    Place::Wrong(Expected::TimeOrOption)
+    spelling::look_up(&OPTIONS, w).unwrap_or(Place::Wrong(Expected::TimeOrOption))
 }
 
-// Of the events that name a request or a connection.
+// The events that name a request or a connection.
+const NAMINGS: [(&[u8], Naming); 9] = [
+    (b"check-out", Naming::CheckOut),
+    (b"warm", Naming::WarmPool),
+    (b"abandon", Naming::Abandon),
+    (b"check-in", Naming::CheckIn),
+    (b"succeeded", Naming::Succeeded),
+    (b"failed", Naming::Failed),
+    (b"pin", Naming::Pin),
+    (b"return", Naming::ReturnToPinner),
+    (b"take", Naming::TakeFromPinner),
+];
+
 fn naming_named(time: u64, w: &[u8]) -> Place
     ensures { result ≡ naming_named time w.now }
 {
-    if check::same(w, b"check-out") {
-        return Place::Id(time, Naming::CheckOut);
-    }
-    if check::same(w, b"warm") {
-        return Place::Id(time, Naming::WarmPool);
-    }
-    if check::same(w, b"abandon") {
-        return Place::Id(time, Naming::Abandon);
-    }
-    if check::same(w, b"check-in") {
-        return Place::Id(time, Naming::CheckIn);
-    }
-    if check::same(w, b"succeeded") {
-        return Place::Id(time, Naming::Succeeded);
-    }
-    if check::same(w, b"failed") {
-        return Place::Id(time, Naming::Failed);
-    }
-    if check::same(w, b"pin") {
-        return Place::Id(time, Naming::Pin);
-    }
-    if check::same(w, b"return") {
-        return Place::Id(time, Naming::ReturnToPinner);
-    }
-    if check::same(w, b"take") {
-        return Place::Id(time, Naming::TakeFromPinner);
-    }
-    Place::Wrong(Expected::Kind)
+    spelling::look_up(&NAMINGS, w).map_or(Place::Wrong(Expected::Kind), |n| Place::Id(time, n))
 }
+
+// The events with nothing behind their names.
+const BARE: [(&[u8], Event); 4] = [
+    (b"ready", Event::MarkAsReady),
+    (b"maintenance", Event::Maintenance),
+    (b"fill", Event::FillPool),
+    (b"close", Event::Close),
+];
 
 pub fn kind_takes(time: u64, w: &[u8]) -> Place
     ensures { result ≡ kind_takes time w.now }
 {
-    if check::same(w, b"ready") {
-        return Place::Whole(time, Event::MarkAsReady);
+    match spelling::look_up(&BARE, w) {
+        Some(e) => Place::Whole(time, e),
+        None if w == b"clear".as_slice() => Place::Cause(time),
+        None => naming_named(time, w),
     }
-    if check::same(w, b"maintenance") {
-        return Place::Whole(time, Event::Maintenance);
-    }
-    if check::same(w, b"fill") {
-        return Place::Whole(time, Event::FillPool);
-    }
-    if check::same(w, b"close") {
-        return Place::Whole(time, Event::Close);
-    }
-    if check::same(w, b"clear") {
-        return Place::Cause(time);
-    }
-    naming_named(time, w)
 }

@@ -1,5 +1,5 @@
 -- What a line says is good: an event that is not malformed, and numbers that fit where they are stored.
-use Rattle.std.specs.Prelude.{◌≡◌, Bool, true, List, ℕ, ◌<◌}
+use Rattle.std.specs.Prelude.{◌≡◌, Bool, true, List, [], ◌∷◌, ℕ, ◌≤◌, ◌<◌, Option, Some, None, unwrap_or, MatchOption, ⊤, if◌then◌else◌}
 use Rattle.std.proofs.Math.Path.{refl}
 use Rattle.std.proofs.Common.{subst, arith, ne_eqb}
 use Rattle.std.proofs.Math.Bool.{false}
@@ -9,15 +9,18 @@ use Rattle.definition.specs.Events.{parts_of}
 use Rattle.definition.specs.Refusals.{causeless}
 use Rattle.definition.specs.RoundTrip.{Writable}
 use Rattle.definition.specs.declared.Event.{Event}
-use Rattle.spelling.specs.Spelling.{most}
+use Rattle.definition.specs.declared.Event.TheVariants.{CheckIn, SucceededForPool}
+use Rattle.spelling.specs.Spelling.{most, same, looked_up}
 use Rattle.notation.specs.declared.Setting.{Setting}
 use Rattle.notation.specs.declared.Naming.{Naming}
 use Rattle.notation.specs.declared.Naming.TheVariants as of
+use Rattle.notation.specs.declared.Expected.{Expected}
+use Rattle.notation.specs.declared.Expected.TheVariants as wants
 use Rattle.notation.specs.declared.Place.{Place}
 use Rattle.notation.specs.declared.Place.TheVariants as at
 use Rattle.notation.specs.declared.Said.{Said}
 use Rattle.notation.specs.declared.Said.TheVariants as line
-use Rattle.notation.specs.Notation.{number_up_to, small_number, option_named, start_takes, value_takes, idle_takes, naming_named, kind_takes, named, id_takes, cause_takes, marks_takes, let_go_takes, timeout_takes, opened_takes, opened_at_takes, takes, says}
+use Rattle.notation.specs.Notation.{number_up_to, most_small, small_number, made, expected_of, options, option_named, starts, start_takes, value_takes, idle_takes, namings, naming_named, bare, kinds, kind_takes, named, id_takes, cause_takes, marks_takes, let_go_takes, timeout_takes, opened_takes, opened_at_takes, takes, says}
 use Rattle.notation.specs.Laws.{at_most, small_at_most}
 
 -- ── Where the reading stands, all is good ──────────────────────────────────────────────────────────────────────────────────
@@ -66,15 +69,39 @@ unfolding when◌then◌else◌
 unless_zero n true e x y p q = p
 unless_zero n false e x y p q = q (eqb-false n 0 e)
 
-small32 : (w : List ℕ) → In32 (small_number w).value
-small32 w = omega (arith, small_at_most w)
+-- what a number makes fits, where it does of each number that there can be
+from_number : (f : ℕ → Place) (x : Expected) (o : Option ℕ) (largest : ℕ) → MatchOption o ⊤ (λ n. n ≤ largest) → ((n : ℕ) → n ≤ largest → Fits (f n))
+    → Fits (made f x o)
+from_number f x (Some n) largest h k = k n h
+from_number f x None largest h k = tt
 
-large64 : (w : List ℕ) → In64 (number_up_to most w).value
-large64 w = omega (arith, at_most most w)
+module _ (f : ℕ → Place) (x : Expected) (w : List ℕ) where
+  from_small : ((n : ℕ) → In32 n → Fits (f n)) → Fits (made f x (small_number w))
+  from_small k = from_number f x (small_number w) most_small (small_at_most w) (λ n h. k n (omega arith))
+
+  from_large : ((n : ℕ) → In64 n → Fits (f n)) → Fits (made f x (number_up_to most w))
+  from_large k = from_number f x (number_up_to most w) most (at_most most w) (λ n h. k n (omega arith))
+
+-- of a table's entries what a word is looked up to be
+abbrev All : {T : Type 0} → (T → Type 0) → List (List ℕ × T) → Type 0
+All P [] = Unit {0}
+All P (x ∷ l) = P x.1 × All P l
+
+looked_up_case : {T : Type 0} (P : T → Type 0) (b : Bool) (x : T) (o : Option T) → P x → MatchOption o ⊤ P → MatchOption (if b then Some x else o) ⊤ P
+looked_up_case P true x o p q = p
+looked_up_case P false x o p q = q
+
+looked_up_all : {T : Type 0} (P : T → Type 0) (l : List (List ℕ × T)) (w : List ℕ) → All P l → MatchOption (looked_up l w) ⊤ P
+looked_up_all P [] w h = tt
+looked_up_all P (x ∷ l) w h = looked_up_case P (same x.0 w) x.1 (looked_up l w) h.0 (looked_up_all P l w h.1)
+
+fits_or_wrong : (o : Option Place) (x : Expected) → MatchOption o ⊤ Fits → Fits (unwrap_or o (at.Wrong x))
+fits_or_wrong (Some p) x h = h
+fits_or_wrong None x h = tt
 
 fits_option : (w : List ℕ) → Fits (option_named w)
 unfolding option_named
-fits_option w = both _ _ _ tt (both _ _ _ tt (both _ _ _ tt (both _ _ _ tt tt)))
+fits_option w = fits_or_wrong (looked_up options w) wants.TimeOrOption (looked_up_all Fits options w (tt, (tt, (tt, (tt, tt)))))
 
 module _ (t : ℕ) (h : In64 t) where
   -- an event at a time that fits
@@ -83,7 +110,11 @@ module _ (t : ℕ) (h : In64 t) where
 
   fits_naming : (w : List ℕ) → Fits (naming_named t w)
   unfolding naming_named
-  fits_naming w = both _ _ _ h (both _ _ _ h (both _ _ _ h (both _ _ _ h (both _ _ _ h (both _ _ _ h (both _ _ _ h (both _ _ _ h (both _ _ _ h tt))))))))
+  fits_naming w = go (looked_up namings w)
+    where
+      go : (o : Option Naming) → Fits (made (at.Id t) wants.Kind o)
+      go (Some n) = h
+      go None = tt
 
   fits_named : (n : Naming) (i : ℕ) → In32 i → Fits (named t n i)
   fits_named of.CheckOut i k = sound _ refl k (omega arith)
@@ -96,19 +127,24 @@ module _ (t : ℕ) (h : In64 t) where
   fits_named of.ReturnToPinner i k = sound _ refl k (omega arith)
   fits_named of.TakeFromPinner i k = sound _ refl k (omega arith)
 
+  fits_kinds : (w : List ℕ) (o : Option Event) → MatchOption o ⊤ (Sound t) → Fits (kinds t w o)
+  fits_kinds w (Some e) k = k
+  fits_kinds w None k = both _ _ _ h (fits_naming w)
+
   fits_kind : (w : List ℕ) → Fits (kind_takes t w)
   unfolding kind_takes
   fits_kind w =
       let none : (e : Event) → causeless e ≡ false → (parts_of e).id ≡ 0 → (parts_of e).second ≡ 0 → Sound t e = λ e c i s. sound e c (omega arith) (omega arith) in
-      both _ _ _ (none _ refl refl refl) (both _ _ _ (none _ refl refl refl) (both _ _ _ (none _ refl refl refl) (both _ _ _ (none _ refl refl refl) (both _ _ _ h (fits_naming w)))))
+      fits_kinds w (looked_up bare w)
+      (looked_up_all (Sound t) bare w (none _ refl refl refl, (none _ refl refl refl, (none _ refl refl refl, (none _ refl refl refl, tt)))))
 
   fits_id : (n : Naming) (w : List ℕ) → Fits (id_takes t n w)
   unfolding id_takes
-  fits_id n w = both _ _ _ (fits_named n (small_number w).value (small32 w)) tt
+  fits_id n w = from_small (named t n) (expected_of n) w (fits_named n)
 
   fits_cause : (w : List ℕ) → Fits (cause_takes t w)
   unfolding cause_takes
-  fits_cause w = both _ _ _ (unless_zero (small_number w).value _ refl _ _ tt (λ k. (h, small32 w, k))) tt
+  fits_cause w = from_small _ wants.Cause w (λ n k. unless_zero n _ refl (at.Wrong wants.Cause) (at.Timeout t n) tt (λ z. (h, k, z)))
 
   module _ (i : ℕ) (k : In32 i) where
     fits_marks : (errored executing : Bool) (w : List ℕ) → Fits (marks_takes t i errored executing w)
@@ -117,7 +153,7 @@ module _ (t : ℕ) (h : In64 t) where
 
     fits_let_go : (errored executing : Bool) (w : List ℕ) → Fits (let_go_takes t i errored executing w)
     unfolding let_go_takes
-    fits_let_go errored executing w = both _ _ _ (sound _ refl k (large64 w)) tt
+    fits_let_go errored executing w = from_large _ wants.LetGo w (λ n l. sound (CheckIn i errored executing n) refl k l)
 
     fits_timeout : (w : List ℕ) → (i ≡ 0 → ⊥) → Fits (timeout_takes t i w)
     unfolding timeout_takes
@@ -129,19 +165,23 @@ module _ (t : ℕ) (h : In64 t) where
 
     fits_opened_at : (w : List ℕ) → Fits (opened_at_takes t i w)
     unfolding opened_at_takes
-    fits_opened_at w = both _ _ _ (sound _ refl k (large64 w)) tt
+    fits_opened_at w = from_large _ wants.Opened w (λ n l. sound (SucceededForPool i n) refl k l)
+
+fits_starts : (w : List ℕ) (o : Option ℕ) → MatchOption o ⊤ (λ n. n ≤ most) → Fits (starts w o)
+fits_starts w (Some n) h = omega arith
+fits_starts w None h = fits_option w
 
 fits_start_takes : (w : List ℕ) → Fits (start_takes w)
 unfolding start_takes
-fits_start_takes w = both _ _ _ (large64 w) (fits_option w)
+fits_start_takes w = fits_starts w (number_up_to most w) (at_most most w)
 
 fits_value : (s : Setting) (w : List ℕ) → Fits (value_takes s w)
 unfolding value_takes
-fits_value s w = both _ _ _ (small32 w) tt
+fits_value s w = from_small (at.Set s) wants.Value w (λ n h. h)
 
 fits_idle : (w : List ℕ) → Fits (idle_takes w)
 unfolding idle_takes
-fits_idle w = both _ _ _ (large64 w) tt
+fits_idle w = from_large at.IdleSet wants.IdleLimit w (λ n h. h)
 
 pub fits_takes : (p : Place) (w : List ℕ) → Fits p → Fits (takes p w)
 fits_takes at.Start w h = fits_start_takes w

@@ -1,9 +1,10 @@
 -- The grammar of a day in words: where the reading of a line stands, what it takes there, and what a whole line says.
-use Rattle.std.specs.Prelude.{Bool, true, false, not, ◌&&◌, List, ℕ}
+use Rattle.std.specs.Prelude.{Bool, true, false, not, ◌&&◌, List, [], ◌∷◌, ℕ, Option, Some, None, unwrap_or, Result, Ok, Err}
 use Rattle.definition.specs.Words.{when◌then◌else◌, ◌=?◌, ◌≤?◌}
+use Rattle.definition.specs.declared.Event.{Event}
 use Rattle.definition.specs.declared.Event.TheVariants.{CheckOut, WarmPool, Abandon, CheckIn, Clear, MarkAsReady, Succeeded, SucceededForPool, Failed, Maintenance, FillPool, Pin, ReturnToPinner, TakeFromPinner, Close}
-use Rattle.spelling.specs.declared.Number.{Number}
-use Rattle.spelling.specs.Spelling.{most, decimal, number_of, same, spelt}
+use Rattle.spelling.specs.declared.NumberError.{NumberError}
+use Rattle.spelling.specs.Spelling.{most, decimal, number_of, same, looked_up, spelt}
 use Rattle.notation.specs.declared.Setting.{Setting}
 use Rattle.notation.specs.declared.Setting.TheVariants.{Maximum, Minimum, MaxConnecting}
 use Rattle.notation.specs.declared.Naming.{Naming}
@@ -14,33 +15,28 @@ use Rattle.notation.specs.declared.Place.{Place}
 use Rattle.notation.specs.declared.Place.TheVariants as at
 use Rattle.notation.specs.declared.Said.{Said}
 use Rattle.notation.specs.declared.Said.TheVariants as line
-use Rattle.notation.specs.declared.Fit.{Fit}
-use Rattle.notation.specs.declared.Small.{Small}
 
 -- ── Numbers ────────────────────────────────────────────────────────────────────────────────────────────────────────────────
 
 -- a word that is a number in decimal, from 0 to a largest one
-abbrev pub no_fit : Fit
-no_fit = record { good = false; value = 0 }
+abbrev pub fits : (largest : ℕ) → Result ℕ NumberError → Option ℕ
+fits largest (Ok n) = when n ≤? largest then Some n else None
+fits largest (Err e) = None
 
-abbrev pub fits : (largest : ℕ) → Number → Fit
-fits largest n = when n.good then (when n.value ≤? largest then record { good = true; value = n.value } else no_fit) else no_fit
-
-unfoldable pub number_up_to : (largest : ℕ) → List ℕ → Fit
+unfoldable pub number_up_to : (largest : ℕ) → List ℕ → Option ℕ
 number_up_to largest w = fits largest (number_of (decimal w))
 
 -- one of 32 bits
 abbrev pub most_small : ℕ
 most_small = 4294967295
 
-abbrev pub no_small : Small
-no_small = record { good = false; value = 0 }
+unfoldable pub small_number : List ℕ → Option ℕ
+small_number w = number_up_to most_small w
 
-abbrev pub small_of : Fit → Small
-small_of n = when n.good then record { good = true; value = n.value } else no_small
-
-unfoldable pub small_number : List ℕ → Small
-small_number w = small_of (number_up_to most_small w)
+-- what a number, or a name, makes of the line, or what should have come
+abbrev pub made : {N : Type 0} → (N → Place) → Expected → Option N → Place
+made f x (Some n) = f n
+made f x None = at.Wrong x
 
 -- ── What should come ───────────────────────────────────────────────────────────────────────────────────────────────────────
 
@@ -74,46 +70,57 @@ expected_at (at.Wrong x) = x
 
 -- ── One word more ──────────────────────────────────────────────────────────────────────────────────────────────────────────
 
+abbrev pub options : List (List ℕ × Place)
+options =
+    (spelt "maximum", at.Value Maximum)
+    ∷ (spelt "minimum", at.Value Minimum)
+    ∷ (spelt "max-connecting", at.Value MaxConnecting)
+    ∷ (spelt "idle-limit", at.IdleLimit)
+    ∷ []
+
 unfoldable pub option_named : List ℕ → Place
-option_named w =
-    when same w (spelt "maximum") then at.Value Maximum else
-    when same w (spelt "minimum") then at.Value Minimum else
-    when same w (spelt "max-connecting") then at.Value MaxConnecting else
-    when same w (spelt "idle-limit") then at.IdleLimit else
-    at.Wrong wants.TimeOrOption
+option_named w = unwrap_or (looked_up options w) (at.Wrong wants.TimeOrOption)
 
 -- a line begins with an event's time, or with an option's name
+abbrev pub starts : List ℕ → Option ℕ → Place
+starts w (Some n) = at.Kind n
+starts w None = option_named w
+
 unfoldable pub start_takes : List ℕ → Place
-start_takes w = let n = number_up_to most w in when n.good then at.Kind n.value else option_named w
+start_takes w = starts w (number_up_to most w)
 
 unfoldable pub value_takes : Setting → List ℕ → Place
-value_takes s w = let n = small_number w in when n.good then at.Set s n.value else at.Wrong wants.Value
+value_takes s w = made (at.Set s) wants.Value (small_number w)
 
 unfoldable pub idle_takes : List ℕ → Place
-idle_takes w = let n = number_up_to most w in when n.good then at.IdleSet n.value else at.Wrong wants.IdleLimit
+idle_takes w = made at.IdleSet wants.IdleLimit (number_up_to most w)
+
+abbrev pub namings : List (List ℕ × Naming)
+namings =
+    (spelt "check-out", of.CheckOut)
+    ∷ (spelt "warm", of.WarmPool)
+    ∷ (spelt "abandon", of.Abandon)
+    ∷ (spelt "check-in", of.CheckIn)
+    ∷ (spelt "succeeded", of.Succeeded)
+    ∷ (spelt "failed", of.Failed)
+    ∷ (spelt "pin", of.Pin)
+    ∷ (spelt "return", of.ReturnToPinner)
+    ∷ (spelt "take", of.TakeFromPinner)
+    ∷ []
 
 unfoldable pub naming_named : (time : ℕ) → List ℕ → Place
-naming_named t w =
-    when same w (spelt "check-out") then at.Id t of.CheckOut else
-    when same w (spelt "warm") then at.Id t of.WarmPool else
-    when same w (spelt "abandon") then at.Id t of.Abandon else
-    when same w (spelt "check-in") then at.Id t of.CheckIn else
-    when same w (spelt "succeeded") then at.Id t of.Succeeded else
-    when same w (spelt "failed") then at.Id t of.Failed else
-    when same w (spelt "pin") then at.Id t of.Pin else
-    when same w (spelt "return") then at.Id t of.ReturnToPinner else
-    when same w (spelt "take") then at.Id t of.TakeFromPinner else
-    at.Wrong wants.Kind
+naming_named t w = made (at.Id t) wants.Kind (looked_up namings w)
 
 -- some events have nothing behind their names, and a clear has its cause
+abbrev pub bare : List (List ℕ × Event)
+bare = (spelt "ready", MarkAsReady) ∷ (spelt "maintenance", Maintenance) ∷ (spelt "fill", FillPool) ∷ (spelt "close", Close) ∷ []
+
+abbrev pub kinds : (time : ℕ) → List ℕ → Option Event → Place
+kinds t w (Some e) = at.Whole t e
+kinds t w None = when same w (spelt "clear") then at.Cause t else naming_named t w
+
 unfoldable pub kind_takes : (time : ℕ) → List ℕ → Place
-kind_takes t w =
-    when same w (spelt "ready") then at.Whole t MarkAsReady else
-    when same w (spelt "maintenance") then at.Whole t Maintenance else
-    when same w (spelt "fill") then at.Whole t FillPool else
-    when same w (spelt "close") then at.Whole t Close else
-    when same w (spelt "clear") then at.Cause t else
-    naming_named t w
+kind_takes t w = kinds t w (looked_up bare w)
 
 -- an event with the number of its request or connection
 abbrev pub named : (time : ℕ) → Naming → (id : ℕ) → Place
@@ -128,13 +135,11 @@ named t of.ReturnToPinner i = at.Whole t (ReturnToPinner i)
 named t of.TakeFromPinner i = at.Whole t (TakeFromPinner i)
 
 unfoldable pub id_takes : (time : ℕ) → Naming → List ℕ → Place
-id_takes t n w = let k = small_number w in when k.good then named t n k.value else at.Wrong (expected_of n)
+id_takes t n w = made (named t n) (expected_of n) (small_number w)
 
 -- there is no cause 0
 unfoldable pub cause_takes : (time : ℕ) → List ℕ → Place
-cause_takes t w =
-    let n = small_number w in
-    when n.good then (when n.value =? 0 then at.Wrong wants.Cause else at.Timeout t n.value) else at.Wrong wants.Cause
+cause_takes t w = made (λ n. when n =? 0 then at.Wrong wants.Cause else at.Timeout t n) wants.Cause (small_number w)
 
 -- the marks of a check-in stand in any order, each once at most, and let-go behind them
 unfoldable pub marks_takes : (time id : ℕ) (errored executing : Bool) → List ℕ → Place
@@ -145,8 +150,7 @@ marks_takes t i errored executing w =
     at.Wrong wants.MarkOrLetGo
 
 unfoldable pub let_go_takes : (time id : ℕ) (errored executing : Bool) → List ℕ → Place
-let_go_takes t i errored executing w =
-    let n = number_up_to most w in when n.good then at.Whole t (CheckIn i errored executing n.value) else at.Wrong wants.LetGo
+let_go_takes t i errored executing w = made (λ n. at.Whole t (CheckIn i errored executing n)) wants.LetGo (number_up_to most w)
 
 unfoldable pub timeout_takes : (time cause : ℕ) → List ℕ → Place
 timeout_takes t cause w = when same w (spelt "timeout") then at.Whole t (Clear true cause) else at.Wrong wants.TimeoutOrEnd
@@ -156,7 +160,7 @@ unfoldable pub opened_takes : (time id : ℕ) → List ℕ → Place
 opened_takes t i w = when same w (spelt "opened") then at.OpenedAt t i else at.Wrong wants.OpenedOrEnd
 
 unfoldable pub opened_at_takes : (time id : ℕ) → List ℕ → Place
-opened_at_takes t i w = let n = number_up_to most w in when n.good then at.Whole t (SucceededForPool i n.value) else at.Wrong wants.Opened
+opened_at_takes t i w = made (λ n. at.Whole t (SucceededForPool i n)) wants.Opened (number_up_to most w)
 
 -- behind the first mistake nothing more is looked at
 abbrev pub takes : Place → (word : List ℕ) → Place

@@ -1,5 +1,5 @@
 // A line of a day in words: where its reading may stand, and what is taken there. `specs/Notation` is the grammar.
-#![tactic(auto)]
+#![tactic(auto, using(crate::specs::Laws::picked, crate::specs::Laws::passed), unfolding(crate::specs::Notation::number_up_to, crate::specs::Notation::small_number, crate::specs::Notation::value_takes, crate::specs::Notation::idle_takes, crate::specs::Notation::id_takes, crate::specs::Notation::cause_takes, crate::specs::Notation::marks_takes, crate::specs::Notation::let_go_takes, crate::specs::Notation::timeout_takes, crate::specs::Notation::opened_takes, crate::specs::Notation::opened_at_takes))]
 
 ghost use Rattle.std.specs.Prelude.{◌≡◌};
 ghost use Rattle.notation.specs.Notation.{number_up_to, small_number, expected_of, value_takes, idle_takes, named, id_takes, cause_takes, marks_takes, let_go_takes, timeout_takes, opened_takes, opened_at_takes};
@@ -96,66 +96,29 @@ pub fn expected_of(n: Naming) -> Expected
     ensures { result ≡ expected_of n }
 {
     match n {
-        Naming::CheckOut => Expected::Request,
-        Naming::WarmPool => Expected::Request,
-        Naming::Abandon => Expected::Request,
-        Naming::CheckIn => Expected::Connection,
-        Naming::Succeeded => Expected::Connection,
-        Naming::Failed => Expected::Connection,
-        Naming::Pin => Expected::Connection,
-        Naming::ReturnToPinner => Expected::Connection,
-        Naming::TakeFromPinner => Expected::Connection,
+        Naming::CheckOut | Naming::WarmPool | Naming::Abandon => Expected::Request,
+        Naming::CheckIn
+        | Naming::Succeeded
+        | Naming::Failed
+        | Naming::Pin
+        | Naming::ReturnToPinner
+        | Naming::TakeFromPinner => Expected::Connection,
     }
 }
 
 // ── Numbers ──
 
-// Where `good`, a number that fits.
-#[derive(Clone, Copy)]
-pub struct Fit {
-    pub good: bool,
-    pub value: u64,
-}
-
-pub fn number_up_to(most: u64, w: &[u8]) -> Fit
+pub fn number_up_to(most: u64, w: &[u8]) -> Option<u64>
     ensures { result ≡ number_up_to most w.now }
 {
-    let n = spelling::number_of(w);
-    if n.good {
-        if n.value <= most {
-            return Fit {
-                good: true,
-                value: n.value,
-            };
-        }
-    }
-    Fit {
-        good: false,
-        value: 0,
-    }
+    spelling::number_of(w).ok().filter(|n| *n <= most)
 }
 
 // A number of 32 bits.
-#[derive(Clone, Copy)]
-struct Small {
-    good: bool,
-    value: u32,
-}
-
-fn small_number(w: &[u8]) -> Small
+fn small_number(w: &[u8]) -> Option<u32>
     ensures { result ≡ small_number w.now }
 {
-    let n = number_up_to(4294967295, w);
-    if n.good {
-        return Small {
-            good: true,
-            value: n.value as u32,
-        };
-    }
-    Small {
-        good: false,
-        value: 0,
-    }
+    u32::try_from(spelling::number_of(w).ok()?).ok()
 }
 
 // ── One word more ──
@@ -163,21 +126,13 @@ fn small_number(w: &[u8]) -> Small
 pub fn value_takes(s: Setting, w: &[u8]) -> Place
     ensures { result ≡ value_takes s w.now }
 {
-    let n = small_number(w);
-    if n.good {
-        return Place::Set(s, n.value);
-    }
-    Place::Wrong(Expected::Value)
+    small_number(w).map_or(Place::Wrong(Expected::Value), |n| Place::Set(s, n))
 }
 
 pub fn idle_takes(w: &[u8]) -> Place
     ensures { result ≡ idle_takes w.now }
 {
-    let n = number_up_to(18446744073709551615, w);
-    if n.good {
-        return Place::IdleSet(n.value);
-    }
-    Place::Wrong(Expected::IdleLimit)
+    number_up_to(u64::MAX, w).map_or(Place::Wrong(Expected::IdleLimit), |n| Place::IdleSet(n))
 }
 
 // With its number.
@@ -200,79 +155,68 @@ fn named(time: u64, n: Naming, id: u32) -> Place
 pub fn id_takes(time: u64, n: Naming, w: &[u8]) -> Place
     ensures { result ≡ id_takes time n w.now }
 {
-    let k = small_number(w);
-    if k.good {
-        return named(time, n, k.value);
-    }
-    Place::Wrong(expected_of(n))
+    small_number(w).map_or(Place::Wrong(expected_of(n)), |id| named(time, n, id))
 }
 
 // A clear must have a cause.
 pub fn cause_takes(time: u64, w: &[u8]) -> Place
     ensures { result ≡ cause_takes time w.now }
 {
-    let n = small_number(w);
-    if n.good {
-        if n.value != 0 {
-            return Place::Timeout(time, n.value);
-        }
+    match small_number(w) {
+        Some(cause) if cause != 0 => Place::Timeout(time, cause),
+        _ => Place::Wrong(Expected::Cause),
     }
-    Place::Wrong(Expected::Cause)
 }
 
+// No match on the bytes: it leaves a goal for each byte of each name, here 27 more that stay open.
 pub fn marks_takes(time: u64, id: u32, errored: bool, executing: bool, w: &[u8]) -> Place
     ensures { result ≡ marks_takes time id errored executing w.now }
 {
-    if !errored {
-        if check::same(w, b"errored") {
-            return Place::Marks(time, id, true, executing);
-        }
+    if !errored && w == b"errored".as_slice() {
+        Place::Marks(time, id, true, executing)
+    } else if !executing && w == b"executing".as_slice() {
+        Place::Marks(time, id, errored, true)
+    } else if w == b"let-go".as_slice() {
+        Place::LetGo(time, id, errored, executing)
+    } else {
+        Place::Wrong(Expected::MarkOrLetGo)
     }
-    if !executing {
-        if check::same(w, b"executing") {
-            return Place::Marks(time, id, errored, true);
-        }
-    }
-    if check::same(w, b"let-go") {
-        return Place::LetGo(time, id, errored, executing);
-    }
-    Place::Wrong(Expected::MarkOrLetGo)
 }
 
 pub fn let_go_takes(time: u64, id: u32, errored: bool, executing: bool, w: &[u8]) -> Place
     ensures { result ≡ let_go_takes time id errored executing w.now }
 {
-    let n = number_up_to(18446744073709551615, w);
-    if n.good {
-        return Place::Whole(time, Event::CheckIn(id, errored, executing, n.value));
-    }
-    Place::Wrong(Expected::LetGo)
+    number_up_to(u64::MAX, w).map_or(
+        Place::Wrong(Expected::LetGo),
+        |n| Place::Whole(time, Event::CheckIn(id, errored, executing, n)),
+    )
 }
 
 pub fn timeout_takes(time: u64, cause: u32, w: &[u8]) -> Place
     ensures { result ≡ timeout_takes time cause w.now }
 {
-    if check::same(w, b"timeout") {
-        return Place::Whole(time, Event::Clear(true, cause));
+    if w == b"timeout".as_slice() {
+        Place::Whole(time, Event::Clear(true, cause))
+    } else {
+        Place::Wrong(Expected::TimeoutOrEnd)
     }
-    Place::Wrong(Expected::TimeoutOrEnd)
 }
 
 pub fn opened_takes(time: u64, id: u32, w: &[u8]) -> Place
     ensures { result ≡ opened_takes time id w.now }
 {
-    if check::same(w, b"opened") {
-        return Place::OpenedAt(time, id);
+    if w == b"opened".as_slice() {
+        Place::OpenedAt(time, id)
+    } else {
+        Place::Wrong(Expected::OpenedOrEnd)
     }
-    Place::Wrong(Expected::OpenedOrEnd)
 }
 
 pub fn opened_at_takes(time: u64, id: u32, w: &[u8]) -> Place
     ensures { result ≡ opened_at_takes time id w.now }
 {
-    let n = number_up_to(18446744073709551615, w);
-    if n.good {
-        return Place::Whole(time, Event::SucceededForPool(id, n.value));
-    }
-    Place::Wrong(Expected::Opened)
+    number_up_to(u64::MAX, w).map_or(
+        Place::Wrong(Expected::Opened),
+        |n| Place::Whole(time, Event::SucceededForPool(id, n)),
+    )
 }

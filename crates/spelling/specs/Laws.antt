@@ -1,109 +1,93 @@
 -- One law for each exit of the reading of a number; and a text that is compared.
-use Rattle.std.specs.Prelude.{◌≡◌, refl, Bool, true, false, List, [], ◌∷◌, ℕ, ◌+◌, ◌-◌, ◌*◌, ◌≤◌, ◌<◌, length, drop, get_or}
+use Rattle.std.specs.Prelude.{◌≡◌, refl, Bool, true, false, ◌&&◌, List, [], ◌∷◌, ℕ, ◌+◌, ◌-◌, ◌*◌, ◌≤◌, ◌<◌, length, drop, get_or, Ok, Err, Some, None}
+use Rattle.std.specs.List.{list_all}
 use Rattle.std.proofs.Math.Path.{sym, ap}
-use Rattle.std.proofs.Common.{◌∙◌, arith, add-one, eq-eqb, ne_eqb, eqb-true, le-leb, drop_of_length-le, drop-cons}
+use Rattle.std.proofs.Common.{rules, ◌∙◌, arith, add-one, ne_eqb, le-leb, leb-true, drop_of_length-le, drop-cons}
 use Rattle.std.proofs.lemmas.Bool.{false≢true, lt-leb}
-use Rattle.std.proofs.Math.Option.{none, some}
-use Rattle.definition.specs.Booleans.{no_first, no_second}
-use Rattle.definition.specs.Words.{when◌then◌else◌, ◌=?◌, ◌≤?◌}
-use Rattle.spelling.specs.Spelling.{most, digit?, digits, all_digits, decimal, no_number, number_of, same}
+use Rattle.std.proofs.lemmas.Slice.Eq.{bytes_eq-Decides}
+use Rattle.std.proofs.lemmas.List.Folds.{list_all_at}
+use Rattle.std.proofs.lemmas.List.Elements.{All-drop}
+use Rattle.std.proofs.lemmas.List.Sums.{AllPass-from_list_all, list_all-from_AllPass}
+use Rattle.definition.specs.Words.{when◌then◌else◌, ◌=?◌}
+use Rattle.spelling.specs.declared.NumberError.TheVariants.{NoNumber, TooLarge}
+use Rattle.spelling.specs.Spelling.{most, digit?, digits, decimal, number_of, same}
 
 -- ── A number ───────────────────────────────────────────────────────────────────────────────────────────────────────────────
 
-module _ (c : ℕ) where
-  pub is_digit : 48 ≤ c → c ≤ 57 → digit? c ≡ true
-  is_digit h k = rw (le-leb 48 c h, le-leb c 57 k)
+-- digits, and something else among them
+stop_case : (u c : ℕ) (l : List ℕ) (b : Bool) → (list_all digit? l ≡ false → digits (u * 10 + (c - 48)) l ≡ None) → (b && list_all digit? l) ≡ false
+    → (when b then digits (u * 10 + (c - 48)) l else None) ≡ None
+unfolding when◌then◌else◌
+stop_case u c l true ih h = ih h
+stop_case u c l false ih h = refl
 
-  pub too_low : c < 48 → digit? c ≡ false
-  too_low h = no_first (48 ≤? c) _ (lt-leb 48 c h)
-
-  pub too_high : 57 < c → digit? c ≡ false
-  too_high h = no_second (48 ≤? c) _ (lt-leb c 57 h)
+no_digits : (l : List ℕ) (u : ℕ) → list_all digit? l ≡ false → digits u l ≡ None
+unfolding digits
+no_digits [] u h = absurd (false≢true (sym h))
+no_digits (c ∷ l) u h = stop_case u c l (digit? c) (no_digits l (u * 10 + (c - 48))) h
 
 -- a number that is too large stays so
-large_case : (u c : ℕ) (l : List ℕ) (b : Bool) → ((v : ℕ) → most < v → number_of (digits v l) ≡ no_number (all_digits l)) → most < u
-    → number_of (when b then digits (u * 10 + (c - 48)) l else none) ≡ no_number (when b then all_digits l else false)
+large_case : (u c : ℕ) (l : List ℕ) (b : Bool) → (list_all digit? l ≡ true → number_of (digits (u * 10 + (c - 48)) l) ≡ Err TooLarge)
+    → (b && list_all digit? l) ≡ true → number_of (when b then digits (u * 10 + (c - 48)) l else None) ≡ Err TooLarge
 unfolding when◌then◌else◌
-large_case u c l true ih h = ih (u * 10 + (c - 48)) (omega arith)
-large_case u c l false ih h = refl
+large_case u c l true ih h = ih h
+large_case u c l false ih h = absurd (false≢true h)
 
-large_rest : (l : List ℕ) (u : ℕ) → most < u → number_of (digits u l) ≡ no_number (all_digits l)
-unfolding digits all_digits when◌then◌else◌
-large_rest [] u h = rw (lt-leb u most h)
-large_rest (c ∷ l) u h = large_case u c l (digit? c) (λ v k. large_rest l v k) h
+large_rest : (l : List ℕ) (u : ℕ) → most < u → list_all digit? l ≡ true → number_of (digits u l) ≡ Err TooLarge
+unfolding digits when◌then◌else◌
+large_rest [] u g h = rw (lt-leb u most g)
+large_rest (c ∷ l) u g h = large_case u c l (digit? c) (large_rest l (u * 10 + (c - 48)) (omega arith)) h
 
-module _ (w : List ℕ) (i : ℕ) where
-  here : i < length w → drop i w ≡ get_or w i 0 ∷ drop (i + 1) w
-  here h = rw (add-one, drop-cons w i 0)
+all_drop : (l : List ℕ) (i : ℕ) → list_all digit? l ≡ true → list_all digit? (drop i l) ≡ true
+all_drop l i a = list_all-from_AllPass digit? (drop i l) (All-drop (λ c. digit? c ≡ true) i l (AllPass-from_list_all digit? l a))
 
-  pub all_more : i < length w → digit? (get_or w i 0) ≡ true → all_digits (drop i w) ≡ all_digits (drop (i + 1) w)
-  unfolding all_digits when◌then◌else◌
-  all_more h e = ap all_digits (here h) ∙ rw e
+some_first : (a b : Bool) → (a && b) ≡ true → a ≡ true
+some_first true b e = refl
+some_first false b e = e
 
-  pub all_stop : i < length w → digit? (get_or w i 0) ≡ false → all_digits (drop i w) ≡ false
-  unfolding all_digits when◌then◌else◌
-  all_stop h e = ap all_digits (here h) ∙ rw e
-
-  pub all_end : length w ≤ i → all_digits (drop i w) ≡ true
-  unfolding all_digits
-  all_end h = ap all_digits (drop_of_length-le w {i = i} h)
-
-module _ (w : List ℕ) (v i : ℕ) where
-  pub digit_more : i < length w → digit? (get_or w i 0) ≡ true → digits v (drop i w) ≡ digits (v * 10 + (get_or w i 0 - 48)) (drop (i + 1) w)
-  unfolding digits when◌then◌else◌
-  digit_more h e = ap (digits v) (here w i h) ∙ rw e
-
-  no_digits : i < length w → digit? (get_or w i 0) ≡ false → digits v (drop i w) ≡ none
-  unfolding digits when◌then◌else◌
-  no_digits h e = ap (digits v) (here w i h) ∙ rw e
+module _ (w : List ℕ) where
+  pub no_word : true ≡ (length w =? 0) → Err NoNumber ≡ number_of (decimal w)
+  unfolding decimal when◌then◌else◌
+  no_word e = rw (← e)
 
   -- a word that is not empty
-  some_word : digits 0 w ≡ digits v (drop i w) → (length w ≡ 0 → ⊥) → number_of (digits v (drop i w)) ≡ number_of (decimal w)
+  some_word : false ≡ (length w =? 0) → decimal w ≡ digits 0 w
   unfolding decimal when◌then◌else◌
-  some_word k e = sym (rw (ne_eqb (length w) 0 e) (ap number_of k))
+  some_word e = rw (← e)
 
-  pub no_number_lem : digits 0 w ≡ digits v (drop i w) → i < length w → digit? (get_or w i 0) ≡ false → no_number false ≡ number_of (decimal w)
-  no_number_lem k h e = sym (ap number_of (no_digits h e)) ∙ some_word k (λ z. omega arith)
+  pub other_word : false ≡ (length w =? 0) → false ≡ list_all digit? w → Err NoNumber ≡ number_of (decimal w)
+  other_word e a = sym (ap number_of (some_word e ∙ no_digits w 0 (sym a)))
 
-  pub too_large : digits 0 w ≡ digits v (drop i w) → i < length w → digit? (get_or w i 0) ≡ true → most < v * 10 + (get_or w i 0 - 48)
-      → no_number (all_digits (drop i w)) ≡ number_of (decimal w)
-  too_large k h e g =
-      ap no_number (all_more w i h e) ∙ sym (large_rest (drop (i + 1) w) (v * 10 + (get_or w i 0 - 48)) g) ∙ sym (ap number_of (digit_more h e))
-      ∙ some_word k (λ z. omega arith)
+  module _ (a : true ≡ list_all digit? w) (i : ℕ) (h : i < length w) where
+    is_digit : digit? (get_or w i 0) ≡ true
+    is_digit = go (digit? (get_or w i 0)) refl
+      where
+        go : (b : Bool) → digit? (get_or w i 0) ≡ b → b ≡ true
+        go true e = refl
+        go false e = absurd (false≢true (sym (list_all_at digit? w i 0 h e) ∙ sym a))
 
-  pub a_number : digits 0 w ≡ digits v (drop i w) → length w ≤ i → (length w ≡ 0 → ⊥) → v ≤ most
-      → record { good = true; is_large = false; value = v } ≡ number_of (decimal w)
+    pub digit_low : 48 ≤ get_or w i 0
+    digit_low = leb-true 48 _ (some_first _ _ is_digit)
+
+    module _ (v : ℕ) (k : digits 0 w ≡ digits v (drop i w)) where
+      pub digit_more : digits 0 w ≡ digits (v * 10 + (get_or w i 0 - 48)) (drop (i + 1) w)
+      unfolding digits when◌then◌else◌
+      digit_more =
+          let e : drop i w ≡ get_or w i 0 ∷ drop (i + 1) w = rw (add-one, drop-cons w i 0) in
+          k ∙ ap (digits v) e ∙ rw is_digit
+
+      pub too_large : most < v * 10 + (get_or w i 0 - 48) → Err TooLarge ≡ number_of (decimal w)
+      too_large g =
+          sym (large_rest (drop (i + 1) w) (v * 10 + (get_or w i 0 - 48)) g (all_drop w (i + 1) (sym a)))
+          ∙ ap number_of (sym digit_more ∙ sym (some_word (sym (ne_eqb (length w) 0 (λ z. omega arith)))))
+
+  pub a_number : false ≡ (length w =? 0) → (i : ℕ) → length w ≤ i → (v : ℕ) → digits 0 w ≡ digits v (drop i w) → v ≤ most → Ok v ≡ number_of (decimal w)
   unfolding digits when◌then◌else◌
-  a_number k h e g =
-      let f : digits v (drop i w) ≡ some v = ap (digits v) (drop_of_length-le w {i = i} h) in
-      sym (rw (le-leb v most g)) ∙ sym (ap number_of f) ∙ some_word k e
-
-pub no_word : (w : List ℕ) → length w ≡ 0 → no_number false ≡ number_of (decimal w)
-unfolding decimal when◌then◌else◌
-no_word w e = sym (rw (eq-eqb (length w) 0 e))
+  a_number e i h v k g =
+      let f : digits v (drop i w) ≡ Some v = ap (digits v) (drop_of_length-le w {i = i} h) in
+      sym (rw (le-leb v most g)) ∙ ap number_of (sym f ∙ sym k ∙ sym (some_word e))
 
 -- ── A text ─────────────────────────────────────────────────────────────────────────────────────────────────────────────────
 
-same_self : (a : List ℕ) → same a a ≡ true
-unfolding same when◌then◌else◌
-same_self [] = refl
-same_self (x ∷ a) = rw (eq-eqb x x refl) (same_self a)
-
-same_equal : (a b : List ℕ) → same a b ≡ true → a ≡ b
-unfolding same when◌then◌else◌
-same_equal [] [] e = refl
-same_equal [] (y ∷ b) e = absurd (false≢true e)
-same_equal (x ∷ a) [] e = absurd (false≢true e)
-same_equal (x ∷ a) (y ∷ b) e = go (x =? y) refl e (same_equal a b)
-  where
-    go : (t : Bool) → (x =? y) ≡ t → (when t then same a b else false) ≡ true → (same a b ≡ true → a ≡ b) → (x ∷ a) ≡ (y ∷ b)
-    go true q k ih = ap (λ (z : ℕ). z ∷ a) (eqb-true x y q) ∙ ap (λ (l : List ℕ). y ∷ l) (ih k)
-    go false q k ih = absurd (false≢true k)
-
 pub same_word : (a b : List ℕ) (r : Bool) → (r ≡ true → a ≡ b) × (a ≡ b → r ≡ true) → r ≡ same a b
-same_word a b true k = sym (ap (same a) (sym (k.0 refl)) ∙ same_self a)
-same_word a b false k = go (same a b) refl
-  where
-    go : (t : Bool) → same a b ≡ t → false ≡ t
-    go true e = k.1 (same_equal a b e)
-    go false e = refl
+same_word a b r k = search (rules, bytes_eq-Decides)

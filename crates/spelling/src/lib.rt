@@ -1,77 +1,58 @@
 // What a word spells: a number in decimal.
 #![tactic(auto)]
 
-ghost use Rattle.std.specs.Prelude.{◌≡◌, ◌≤◌, length, drop};
-ghost use Rattle.spelling.specs.Spelling.{all_digits, decimal, no_number, number_of};
+ghost use Rattle.std.specs.Prelude.{◌≡◌, ◌+◌, ◌-◌, ◌*◌, ◌<◌, ◌≤◌, MatchResult};
+ghost use Rattle.std.specs.List.{list_all};
+ghost use Rattle.spelling.specs.Spelling.{most, digit?, decimal, number_of, entries, looked_up};
+ghost use Rattle.spelling.specs.declared.NumberError.TheVariants.{TooLarge};
 
-// Where `good`, a number; where `is_large`, one above 64 bits.
-#[derive(Clone, Copy)]
-pub struct Number {
-    pub good: bool,
-    pub is_large: bool,
-    pub value: u64,
+// Why a word is no number of 64 bits.
+#[derive(Debug, Clone, Copy, PartialEq, Eq)]
+pub enum NumberError {
+    NoNumber,
+    TooLarge,
 }
 
-// Whether a word has digits only, from a place on.
-fn only_digits(word: &[u8], from: usize) -> bool
-    requires { from ≤ length word.now }
-    ensures { result ≡ all_digits (drop from word.now) }
+fn only_digits(word: &[u8]) -> bool
+    ensures { result ≡ list_all digit? word.now }
 {
-    let mut i = from;
-    while i < word.len() {
-        let c = word[i];
-        if c < 48 {
-            return false;
-        }
-        if 57 < c {
-            return false;
-        }
-        i += 1;
-    }
-    true
+    word.iter().all(|c| c.is_ascii_digit())
 }
 
-fn no_number(is_large: bool) -> Number
-    ensures { result ≡ no_number is_large }
+// A number so far, and a digit behind it.
+fn with_digit(number: u64, c: u8) -> Result<u64, NumberError>
+    requires { 48 ≤ c }
+    ensures { MatchResult result (λ n. (n ≡ number * 10 + (c - 48)) × (n ≤ most)) (λ e. (e ≡ TooLarge) × (most < number * 10 + (c - 48))) }
 {
-    Number {
-        good: false,
-        is_large: is_large,
-        value: 0,
-    }
+    let digit = u64::from(c - b'0');
+    number
+        .checked_mul(10)
+        .and_then(|tens| tens.checked_add(digit))
+        .ok_or(NumberError::TooLarge)
 }
 
 // A word in decimal, where it is a number that fits.
-pub fn number_of(word: &[u8]) -> Number
+pub fn number_of(word: &[u8]) -> Result<u64, NumberError>
     ensures { result ≡ number_of (decimal word.now) }
 {
-    let mut v: u64 = 0;
-    let mut i: usize = 0;
-    while i < word.len() {
-        let c = word[i];
-        if c < 48 {
-            return no_number(false);
-        }
-        if 57 < c {
-            return no_number(false);
-        }
-        if 1844674407370955161 < v {
-            return no_number(only_digits(word, i));
-        }
-        let d = (c - 48) as u64;
-        let tens = v * 10;
-        if 18446744073709551615 - d < tens {
-            return no_number(only_digits(word, i));
-        }
-        v = tens + d;
-        i += 1;
+    if word.is_empty() || !only_digits(word) {
+        return Err(NumberError::NoNumber);
     }
-    if word.len() == 0 {
-        return no_number(false);
+    let mut number = 0;
+    for c in word {
+        number = with_digit(number, *c)?;
     }
-    Number {
-        good: true,
-        is_large: false,
-        value: v,
+    Ok(number)
+}
+
+// What stands in a table beside the first name that the word is.
+pub fn look_up<T: Copy>(table: &[(&[u8], T)], word: &[u8]) -> Option<T>
+    ensures { result ≡ looked_up (entries table.now) word.now }
+{
+    for (name, entry) in table {
+        if *name == word {
+            return Some(*entry);
+        }
     }
+    None
 }

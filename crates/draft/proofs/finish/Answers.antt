@@ -3,11 +3,11 @@ use Rattle.draft.proofs.finish.Goals as goal
 
 pub slice_bounds-lay_first-count : goal.slice_bounds-lay_first-count
 slice_bounds-lay_first-count c =
-    (end_left c.args.d c.args.out.now c.end_line-s.result c.end_line-s.new.out c.end_line-s.ensures c.requires.1).0
+    (end_left c.args.d c.args.out.now c.end_line-s.result c.end_line-s.new.out c.end_line-s.ensures c.requires).0
 
 pub lay_first-m-requires : goal.lay_first-m-requires
 lay_first-m-requires c =
-    (end_left c.args.d c.args.out.now c.end_line-s.result c.end_line-s.new.out c.end_line-s.ensures c.requires.1).1
+    (end_left c.args.d c.args.out.now c.end_line-s.result c.end_line-s.new.out c.end_line-s.ensures c.requires).1
 
 pub returns : goal.returns
 returns c =

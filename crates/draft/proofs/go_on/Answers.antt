@@ -3,7 +3,7 @@ use Rattle.draft.specs.Laws.{going_start, going_length, going_mistake, going_aga
 use Rattle.draft.proofs.go_on.Goals as goal
 
 pub loop-at-init : goal.loop-at-init
-loop-at-init c = going_start c.args.d c.args.text.now c.args.out.now c.requires
+loop-at-init c = going_start c.args.d c.args.text.now c.args.out.now
 
 pub overflow_add-at : goal.overflow_add-at
 overflow_add-at c =

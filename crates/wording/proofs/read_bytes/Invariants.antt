@@ -1,11 +1,7 @@
-use Prim.Native.Nat.{◌-◌}
-use Rattle.std.specs.Prelude.{length, take}
-use Rattle.wording.specs.Wording.{reading}
-use Rattle.wording.specs.Laws.{Turning}
+use Rattle.std.proofs.Common.{◌≡◌, take}
+use Rattle.wording.specs.Wording.{read_all}
+use Rattle.wording.specs.Held.{view_of}
 use Rattle.wording.proofs.read_bytes.Given as goal
 
-abbrev pub invariant-loop-i : goal.invariant-loop-i
-invariant-loop-i l = Turning (reading l.initial.place (take l.initial.length l.initial.word) l.initial.over) l.bytes l.place l.word l.length l.over l.i
-
-abbrev pub decreases-loop-i : goal.decreases-loop-i
-decreases-loop-i l = length l.bytes - l.i
+abbrev pub invariant-loop-c : goal.invariant-loop-c
+invariant-loop-c l = view_of l.line ≡ read_all (view_of l.initial.line) (take l.c-index l.bytes)

@@ -9,7 +9,8 @@ use Rattle.definition.specs.Limits.{limits_of}
 use Rattle.definition.specs.Words.{when◌then◌else◌, ◌<?◌}
 use Rattle.definition.specs.Pool as D
 use Rattle.definition.specs.Pool.{Waiter, fresh, with_defaults, in_range}
-use Rattle.definition.specs.Records.{Record, record_length}
+use Rattle.definition.specs.Records.{record_length}
+use Rattle.definition.specs.declared.Record.{Record}
 use Rattle.definition.specs.Steps.{Out, ◌>>◌}
 use Rattle.definition.specs.Refusals as R
 use Rattle.definition.specs.Refusals.{enough_room, room_records, refusal_no, after, run}
@@ -27,7 +28,7 @@ use Rattle.promises.proofs.Keeps.{step_written}
 use Rattle.promises.specs.Calls.{stepped}
 use Rattle.slots.specs.View.{SlotPool}
 use Rattle.slots.specs.Call.{call}
-use Rattle.slots.specs.declared.Outcome.TheVariants.{Refused, Accepted}
+use Rattle.std.specs.declared.result.Result.TheVariants.{Ok, Err}
 use Rattle.refinement.specs.Stands.{Stands, Formed}
 use Rattle.refinement.proofs.Formed.{fresh_stands, fresh_formed}
 use Rattle.refinement.specs.RecordRoom.{FewIn}
@@ -62,14 +63,14 @@ twelve OptionsOutOfRange = (omega arith, omega arith)
 twelve NotWaiting = (omega arith, omega arith)
 twelve AlreadyPinned = (omega arith, omega arith)
 
-refuses : (p : Pool) (l : List ℕ) (r : Refusal) (w : Entered) → w ≡ entered p l (Refused r) → IsRefused p l w
+refuses : (p : Pool) (l : List ℕ) (r : Refusal) (w : Entered) → w ≡ entered p l (Err r) → IsRefused p l w
 refuses p l r w e =
     subst (λ (x : Entered). IsRefused p l x) (sym e) (record { number = twelve r; none_written = refl; pool_stays = refl; out_stays = refl })
 
--- ── Accepted ───────────────────────────────────────────────────────────────────────────────────────────────────────────
+-- ── Accepted ─────────────────────────────────────────────────────────────────────────────────────────────────────
 
 -- what is accepted had room enough
-has_room : (p : Pool) (b l : List ℕ) (n : ℕ) → (entry p b l).outcome ≡ Accepted n → enough_room ≤ length l
+has_room : (p : Pool) (b l : List ℕ) (n : ℕ) → (entry p b l).outcome ≡ Ok n → enough_room ≤ length l
 has_room p b l n h = by_bool (length l <? enough_room)
     (λ s. let e = ap (λ (w : Entered). w.outcome) (entry_short p b l (ltb-true (length l) enough_room s)) in let z : ◌≡◌ {A = ℕ} 0 1 = cc in absurd (omega arith))
     (λ s. ltb-false (length l) enough_room s)
@@ -77,7 +78,7 @@ has_room p b l n h = by_bool (length l <? enough_room)
 module _ (p : Pool) (f : Formed (view_of p)) (m : D.Pool) (st : Stands (view_of p) m) (b l : List ℕ) (o : Out D.Pool) (d : Done p l (entry p b l) o) where
   few : length o.records ≤ room_records
   few =
-      let same : (call (view_of p) l (frame_of b)).outcome ≡ Accepted (length o.records) = sym (ap (λ (w : Entered). w.outcome) (entry_back p f b l)) ∙ d.outcome in
+      let same : (call (view_of p) l (frame_of b)).outcome ≡ Ok (length o.records) = sym (ap (λ (w : Entered). w.outcome) (entry_back p f b l)) ∙ d.outcome in
       subst FewIn same (call_few (view_of p) m l (frame_of b) st)
 
   -- its records, as they are laid at the output's front
@@ -109,7 +110,7 @@ judged p f m st b l (R.Accepted o) w = inr (accepts p f m st b l o (w.accepts o 
 
 broken : (p : Pool) (b l : List ℕ) → keeps p ≡ false → Meant p l (entry p b l) (R.Refused (short_or_bad l))
 broken p b l k = record {
-  refuses = λ x e. let d : short_or_bad l ≡ x = cc in unkept p b l k ∙ ap (λ (y : Refusal). entered p l (Refused y)) d;
+  refuses = λ x e. let d : short_or_bad l ≡ x = cc in unkept p b l k ∙ ap (λ (y : Refusal). entered p l (Err y)) d;
   accepts = λ o e. let z : ◌≡◌ {A = ℕ} 0 1 = cc in absurd (omega arith);
 }
 
@@ -190,7 +191,7 @@ kept o h cs q st r = record {
   in_time_after = in_time o;
 }
 
-made_in_range : (asked : Options) → (making asked).outcome ≡ Accepted 0 → in_range (with_defaults asked) ≡ true
+made_in_range : (asked : Options) → (making asked).outcome ≡ Ok 0 → in_range (with_defaults asked) ≡ true
 made_in_range asked h = by_bool (in_range (with_defaults asked)) (λ k. k)
     (λ k. let e = ap (λ (w : Made). w.outcome) (making_refuses asked k) in let z : ◌≡◌ {A = ℕ} 0 1 = cc in absurd (omega arith))
 

@@ -2,7 +2,7 @@
 use Rattle.std.specs.Prelude.{◌≡◌, refl, Bool, true, false, List, [], ◌∷◌, ◌++◌, ◌⊎◌, ℕ, suc, ◌+◌, ◌-◌, ◌≤◌, ◌<◌, length, take, replicate}
 use Rattle.std.proofs.Common.{sym, subst, ◌∙◌, inl, inr, ltb-true, ltb-false}
 use Rattle.std.proofs.Math.Path.{ap}
-use Rattle.std.proofs.Math.Option.{Option, none, some}
+use Rattle.std.specs.Prelude.{Option, None as none, Some as some}
 use native.Mathlib.Omega.{arith}
 use Rattle.std.proofs.lemmas.List.{length-replicate}
 use Rattle.std.proofs.Math.Seq.{take-nil}
@@ -10,7 +10,7 @@ use Rattle.definition.specs.Booleans.{by_bool}
 use Rattle.definition.specs.Words.{when◌then◌else◌, ◌<?◌}
 use Rattle.definition.specs.Pool as D
 use Rattle.definition.specs.Pool.{fresh, with_defaults, in_range}
-use Rattle.definition.specs.Records.{Record}
+use Rattle.definition.specs.declared.Record.{Record}
 use Rattle.definition.specs.Steps.{◌>>◌}
 use Rattle.definition.specs.Refusals as R
 use Rattle.definition.specs.Refusals.{step, after, run, enough_room, make}
@@ -33,13 +33,11 @@ use Rattle.first_line.specs.declared.Phase.{Phase}
 use Rattle.first_line.specs.declared.Phase.TheVariants as phase
 use Rattle.first_line.specs.Took.{Took, quiet}
 use Rattle.first_line.specs.OnSlots as O
-use Rattle.first_line.specs.OnSlots.{Play}
+use Rattle.first_line.specs.OnSlots.{Play, begun, no_options}
 use Rattle.first_line.specs.Code.{Able}
 use Rattle.frame_lines.specs.OnSlots as F
 use Rattle.lines.specs.OnSlots as P
 use Rattle.lines.specs.OnSlots.{on_slots, line_slots, last_slots}
-use Rattle.runs.specs.Code.{no_options}
-use Rattle.session.specs.Code.{begun}
 use Rattle.replay.specs.Whole.{lines, text_lines, slots_tame}
 use Rattle.replay.specs.Lists.{Stage, Going, on_lists, start, answered, going_at}
 use Rattle.replay.specs.Laying.{numbered_append}

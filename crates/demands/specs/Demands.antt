@@ -3,7 +3,7 @@
 -- `entry p bytes out` is what a call leaves: pool, output and answer. The contracts of `entry::step`, and of `in_place::event` for a pool
 -- that is lent, say that the code leaves just that. `Typed p` says of the pool value p what its type in the code says.
 use Rattle.std.specs.Prelude.{◌≡◌, true, List, [], ◌∷◌, ◌++◌, map, ◌⊎◌, ℕ, ◌+◌, ◌*◌, ◌≤◌, length, take, drop}
-use Rattle.std.proofs.Math.Option.{some}
+use Rattle.std.specs.Prelude.{Some as some}
 use Rattle.definition.specs.Words.{when◌then◌else◌}
 use Rattle.definition.specs.Pool as D
 use Rattle.definition.specs.Pool.{fresh, with_defaults, in_range}
@@ -18,7 +18,7 @@ use Rattle.definition.specs.declared.Refusal as declared
 use Rattle.promises.specs.Promises.{log_of, standing, Placed, HandsOutFree, InOrder, LogInTime, InTime, InTimeFrom}
 use Rattle.promises.specs.Runs.{accepted}
 use Rattle.slots.specs.View.{SlotPool}
-use Rattle.slots.specs.declared.Outcome.TheVariants.{Accepted}
+use Rattle.std.specs.declared.result.Result.TheVariants.{Ok, Err}
 use Rattle.refinement.specs.Stands.{Stands}
 use Rattle.refinement.specs.Rules.{Rules, lists_of}
 use Rattle.printing.specs.Printed.{entries_bytes}
@@ -32,8 +32,9 @@ use Rattle.entry.specs.Meaning.{Meant, Lend, calls, left, short_or_bad}
 use Rattle.first_line.specs.Took.{line_room}
 use Rattle.lines.specs.OnSlots.{on_slots}
 use Rattle.pieces.specs.Feed.{finish}
-use Rattle.session.specs.Code.{opening, view_in, Finishes}
-use Rattle.session.specs.declared.Session.{Session}
+use Rattle.runs.specs.Code.{view_in}
+use Rattle.runs.specs.declared.Session.{Session}
+use Rattle.session.specs.Code.{opening, Finishes}
 use Rattle.replay.specs.Calls.{feed, ended}
 use Rattle.replay.specs.Days.{Prefix, day_in}
 use Rattle.replay.specs.Sessions.{SoFar}
@@ -99,7 +100,7 @@ pub record Demand3For (asked : Options) (cs : List Lend) : Type 0 where
   pub log : laid_by cs (making asked).pool ≡ entries_bytes (numbered 0 (log_of (with_defaults asked) (calls cs)))
 
 abbrev pub Demand3Calls : Type 0
-Demand3Calls = (asked : Options) → (making asked).outcome ≡ Accepted 0 → (cs : List Lend) → Demand3For asked cs
+Demand3Calls = (asked : Options) → (making asked).outcome ≡ Ok 0 → (cs : List Lend) → Demand3For asked cs
 
 -- (b) Any text of a day whatever. Its lines after the options line, as many as the budget allows, are frames.
 abbrev pub line_calls : List (List ℕ) → List R.Call

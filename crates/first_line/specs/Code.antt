@@ -1,31 +1,30 @@
--- What the code says of a line's answer, and of the buffers that were lent to it.
+-- What the code says of a line's answer, and of what was lent to it.
 use Rattle.std.specs.Prelude.{◌≡◌, List, ◌++◌, ℕ, ◌≤◌, length, drop}
-use Rattle.std.proofs.Math.Option.{Option}
-use Rattle.definition.specs.declared.Options.{Options}
-use Rattle.slots.specs.View.{SlotPool}
+use Rattle.slots.specs.View.{SlotPool, pool_in}
 use Rattle.refinement.specs.Stands.{Formed}
 use Rattle.first_line.specs.declared.Phase.{Phase}
 use Rattle.first_line.specs.declared.Phase.TheVariants.{First, Going, Ended}
 use Rattle.first_line.specs.declared.Pace.{Pace}
+use Rattle.first_line.specs.declared.Replayer.{Replayer}
 use Rattle.first_line.specs.Took.{Took, line_room}
-use Rattle.first_line.specs.OnSlots.{Play, options}
+use Rattle.first_line.specs.OnSlots.{Play}
 
--- a pace that goes, is over
-abbrev pub going_pace : Pace → Pace
-going_pace r = record { phase = Going; used = r.used; budget = r.budget }
-
-abbrev pub ended_pace : Pace → Pace
-ended_pace r = record { phase = Ended; used = r.used; budget = r.budget }
-
--- the state that the lent parts make
+-- the state that the parts make, and that of a replayer
 abbrev pub play_of : Pace → SlotPool → (scratch : List ℕ) → Play
 play_of r p l = record { phase = r.phase; used = r.used; budget = r.budget; pool = p; scratch = l }
+
+abbrev pub play_in : Replayer → Play
+play_in r = play_of r.pace (pool_in r.worker) r.scratch
 
 -- a run that goes has a formed pool
 abbrev pub Able : Phase → SlotPool → Type 0
 Able First p = Unit {0}
 Able Going p = Formed p
 Able Ended p = Unit {0}
+
+-- what is asked of a replayer, and kept
+abbrev pub AbleIn : Replayer → Type 0
+AbleIn r = Able r.pace.phase (pool_in r.worker)
 
 -- a line's answer: the state, and n bytes written at the output's front
 pub record Lined (k : Took Play ℕ) (before after : List ℕ) (s : Play) (n : ℕ) : Type 0 where
@@ -34,7 +33,3 @@ pub record Lined (k : Took Play ℕ) (before after : List ℕ) (s : Play) (n : �
   pub few : n ≤ line_room
   pub laid : after ≡ k.out ++ drop n before
   pub able : Able s.phase s.pool
-
--- that of an options line, which leaves the scratch alone
-pub record Opens (r : Pace) (p : SlotPool) (x : Option Options) (before after : List ℕ) (r' : Pace) (p' : SlotPool) (n : ℕ) : Type 0 where
-  pub lined : (l : List ℕ) → Lined (options (play_of r p l) x) before after (play_of r' p' l) n

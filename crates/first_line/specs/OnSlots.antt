@@ -1,6 +1,6 @@
 -- The state on slots that lines go on from, and what the options line makes of it, byte for byte.
 use Rattle.std.specs.Prelude.{List, ℕ}
-use Rattle.std.proofs.Math.Option.{Option, none, some}
+use Rattle.std.specs.Prelude.{Option, None as none, Some as some}
 use Rattle.definition.specs.Words.{when◌then◌else◌}
 use Rattle.definition.specs.Pool.{with_defaults, in_range}
 use Rattle.definition.specs.Bytes.{line_of}
@@ -11,7 +11,7 @@ use Rattle.definition.specs.declared.Refusal.TheVariants.{Malformed, OptionsOutO
 use Rattle.slots.specs.View.{SlotPool}
 use Rattle.refinement.specs.Alike.{fresh_slots}
 use Rattle.first_line.specs.declared.Phase.{Phase}
-use Rattle.first_line.specs.declared.Phase.TheVariants.{Going, Ended}
+use Rattle.first_line.specs.declared.Phase.TheVariants.{First, Going, Ended}
 use Rattle.first_line.specs.Took.{Took, quiet}
 
 -- the pool counts only while the run is going; the scratch is the buffer that events lay their records in
@@ -21,6 +21,13 @@ pub record Play : Type 0 where
   pub budget : ℕ
   pub pool : SlotPool
   pub scratch : List ℕ
+
+-- before the options line, with something in the pool's place
+abbrev pub begun : (budget : ℕ) → SlotPool → (scratch : List ℕ) → Play
+begun budget p l = record { phase = First; used = 0; budget = budget; pool = p; scratch = l }
+
+abbrev pub no_options : Options
+no_options = record { maximum = 0; minimum = 0; connecting = 0; idle = 0 }
 
 -- the log's line for a refused one
 abbrev pub refused_line : Refusal → (line : ℕ) → List ℕ

@@ -1,12 +1,6 @@
 -- What the code says of a frame's line.
-use Rattle.std.specs.Prelude.{◌≡◌, List, ◌++◌, ℕ, ◌+◌, ◌≤◌, length, drop}
-use Rattle.first_line.specs.declared.Phase.TheVariants.{Going}
-use Rattle.first_line.specs.declared.Pace.{Pace}
+use Rattle.std.specs.Prelude.{◌≡◌, List, ◌++◌, ℕ, ◌≤◌, length, drop}
 use Rattle.first_line.specs.Took.{line_room}
-
--- a pace that has one frame more
-abbrev pub counted_pace : Pace → Pace
-counted_pace r = record { phase = Going; used = r.used + 1; budget = r.budget }
 
 -- n bytes were written at the output's front, and they are these
 pub record Said (said before after : List ℕ) (n : ℕ) : Type 0 where

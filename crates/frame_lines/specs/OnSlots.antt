@@ -1,8 +1,8 @@
 -- What a frame's line makes of the state on slots, byte for byte.
 use Rattle.std.specs.Prelude.{List, ℕ, ◌+◌}
 use Rattle.slots.specs.Call.{World}
-use Rattle.slots.specs.declared.Outcome.{Outcome}
-use Rattle.slots.specs.declared.Outcome.TheVariants.{Refused, Accepted}
+use Rattle.slots.specs.Outcome.{Outcome}
+use Rattle.std.specs.declared.result.Result.TheVariants.{Ok, Err}
 use Rattle.printing.specs.Printed.{printed}
 use Rattle.first_line.specs.declared.Phase.TheVariants.{Going}
 use Rattle.first_line.specs.Took.{Took}
@@ -10,8 +10,8 @@ use Rattle.first_line.specs.OnSlots.{Play, refused_line}
 
 -- what a call's answer is in the log, with the records in the scratch
 abbrev pub said_of : Outcome → List ℕ → (line : ℕ) → List ℕ
-said_of (Refused r) scratch line = refused_line r line
-said_of (Accepted n) scratch line = printed n scratch
+said_of (Err r) scratch line = refused_line r line
+said_of (Ok n) scratch line = printed n scratch
 
 module _ (s : Play) where
   abbrev pub answered : World → Took Play ℕ

@@ -4,18 +4,18 @@
 ghost use Rattle.std.specs.Prelude.{◌≡◌, ◌+◌, ◌%◌, ◌≤◌, ◌<◌, length};
 ghost use Rattle.definition.specs.Refusals.{enough_room};
 ghost use Rattle.definition.specs.Bytes.{frame_of_line};
-ghost use Rattle.slots.specs.View.{given, before, after};
+ghost use Rattle.slots.specs.View.{pool_in};
 ghost use Rattle.slots.specs.Call.{call};
 ghost use Rattle.refinement.specs.Stands.{Formed};
 ghost use Rattle.refinement.specs.RecordRoom.{FewIn};
 ghost use Rattle.first_line.specs.Took.{line_room};
-ghost use Rattle.first_line.specs.Code.{play_of, Lined};
+ghost use Rattle.first_line.specs.Code.{play_in, Lined};
 ghost use Rattle.frame_lines.specs.OnSlots.{said_of, answered};
-ghost use Rattle.frame_lines.specs.Code.{counted_pace, Said};
+ghost use Rattle.frame_lines.specs.Code.{Said};
 
 use definition::LINE;
-use first_line::{Pace, Phase, Taken};
-use slots::{Head, Numbers, Outcome, States, Times, Waiters};
+use first_line::{Pace, Phase, Replayer};
+use slots::Outcome;
 
 // The number of the line after `used` frames, the options line being 1.
 fn line_number(used: u64) -> u32
@@ -30,11 +30,11 @@ fn say(answer: Outcome, used: u64, scratch: &[u8], out: &mut [u8]) -> usize
     ensures { Said (said_of answer scratch.now (used + 2)) out.old out.new result }
 {
     match answer {
-        Outcome::Refused(refusal) => {
+        Err(refusal) => {
             refusals::print_refusal(refusal, line_number(used), out);
             LINE
         }
-        Outcome::Accepted(count) => {
+        Ok(count) => {
             let n = count as usize;
             printing::print_records(scratch, n, out);
             n * LINE
@@ -42,42 +42,19 @@ fn say(answer: Outcome, used: u64, scratch: &[u8], out: &mut [u8]) -> usize
     }
 }
 
-// One frame more, refused or not.
-fn counted(pace: Pace) -> Pace
-    requires { pace.used < pace.budget }
-    ensures { result ≡ counted_pace pace }
+// A later line: a frame, refused or not. The pool's structure is not tested: it is formed, and stays so.
+pub fn take_frame(r: &mut Replayer, line: &[u8], out: &mut [u8]) -> usize
+    requires { (r.old.pace.used < r.old.pace.budget) × Formed (pool_in r.old.worker) × (line_room ≤ length out.old) }
+    ensures { Lined (answered (play_in r.old) (call (pool_in r.old.worker) r.old.scratch (frame_of_line line.now))) out.old out.new (play_in r.new) result }
 {
-    Pace {
+    let pace = r.pace;
+    let frame = reading::line_frame(line);
+    let answer = event::call(&mut r.worker, &mut r.scratch, frame);
+    let n = say(answer, pace.used, &r.scratch, out);
+    r.pace = Pace {
         phase: Phase::Going,
         used: pace.used + 1,
-        budget: pace.budget,
-    }
-}
-
-// A later line: a frame. The pool's structure is not tested: it is formed, and stays so.
-pub fn take_frame(
-    pace: Pace,
-    head: Head,
-    numbers: &mut Numbers,
-    times: &mut Times,
-    states: &mut States,
-    waiters: &mut Waiters,
-    line: &[u8],
-    scratch: &mut [u8],
-    out: &mut [u8],
-) -> Taken
-    requires { (pace.used < pace.budget) × Formed (given head numbers times states waiters) × (enough_room ≤ length scratch.old) × (line_room ≤ length out.old) }
-    ensures { Lined (answered (play_of pace (before head numbers times states waiters) scratch.old) (call (before head numbers times states waiters) scratch.old (frame_of_line line.now))) out.old out.new (play_of result.pace (after result.head numbers times states waiters) scratch.new) result.written }
-{
-    let frame = reading::line_frame(line);
-    let a = event::call(head, numbers, times, states, waiters, scratch, frame);
-    let h = a.head;
-    let answer = a.outcome;
-    let next = counted(pace);
-    let n = say(answer, pace.used, scratch, out);
-    Taken {
-        pace: next,
-        head: h,
-        written: n,
-    }
+        ..pace
+    };
+    n
 }

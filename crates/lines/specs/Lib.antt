@@ -1,4 +1,4 @@
 pub mod Machine
 pub mod OnSlots
-pub mod Code
+pub mod Told
 pub mod Exits

@@ -1,7 +1,7 @@
 -- A long line: its first 50 bytes tell that it is malformed.
 use Rattle.std.specs.Prelude.{◌≡◌, refl, Bool, true, false, List, [], ◌∷◌, ◌++◌, ℕ, zero, suc, ◌<◌, length, take, leb}
 use Rattle.std.proofs.Common.{sym, ap, ◌∙◌, arith, length-take, take_all, leb-true, leb-false, ne_eqb}
-use Rattle.std.proofs.Math.Option.{none}
+use Rattle.std.specs.Prelude.{None as none}
 use Rattle.definition.specs.Words.{when◌then◌else◌, ◌<?◌}
 use Rattle.definition.specs.Bytes.{bytes_of, frame_of_line, options_of_line, or_bad, or_none}
 use Rattle.slots.specs.Call.{call}
@@ -11,7 +11,7 @@ use Rattle.first_line.specs.Took.{quiet}
 use Rattle.first_line.specs.OnSlots.{Play, options}
 use Rattle.frame_lines.specs.OnSlots.{answered}
 use Rattle.lines.specs.OnSlots.{line_in, line_slots}
-use Rattle.pieces.specs.Feed.{held_most}
+use Rattle.pieces.specs.Holds.{held_most}
 
 no_bytes : (l : List ℕ) → (length l ≡ 49 → ⊥) → bytes_of l ≡ none
 unfolding bytes_of when◌then◌else◌

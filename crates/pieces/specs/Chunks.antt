@@ -11,7 +11,8 @@ use Rattle.definition.specs.Bytes.{newline}
 use Rattle.first_line.specs.Took.{Took, line_room}
 use Rattle.lines.specs.Machine.{Machine}
 use Rattle.newlines.specs.Newlines.{line_len, ends, len_true, len_false, len_nil, len_positive}
-use Rattle.pieces.specs.Feed.{View, Fed, held_most, stop, joined, emptied, push, feed_in, go_on, in_true, in_false, in_nil}
+use Rattle.pieces.specs.Feed.{View, Fed, stop, joined, emptied, push, feed_in, go_on, in_true, in_false, in_nil}
+use Rattle.pieces.specs.Holds.{held_most}
 use Rattle.pieces.specs.Cap.{cap_append}
 
 module _ {S O : Type 0} (m : Machine S O) where

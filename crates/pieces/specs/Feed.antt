@@ -6,6 +6,7 @@ use Rattle.definition.specs.Words.{when◌then◌else◌, ◌<?◌, ◌=?◌}
 use Rattle.definition.specs.Bytes.{newline}
 use Rattle.first_line.specs.Took.{Took, line_room}
 use Rattle.lines.specs.Machine.{Machine}
+use Rattle.pieces.specs.Holds.{held_most}
 
 -- a state, and the bytes of the line that has not ended: 50 at most, since a line of more than 49 is malformed
 pub record View (S : Type 0) : Type 0 where
@@ -17,10 +18,6 @@ pub record Fed (S O : Type 0) : Type 0 where
   pub view : View S
   pub out : List O
   pub rest : List ℕ
-
--- the most that is held of a line
-abbrev pub held_most : ℕ
-held_most = 50
 
 module _ {S O : Type 0} where
   abbrev pub stop : View S → List ℕ → Fed S O

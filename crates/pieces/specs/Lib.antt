@@ -1,3 +1,5 @@
+pub mod Holds
+pub mod Inside
 pub mod Feed
 pub mod Cap
 pub mod Chunks

@@ -15,10 +15,9 @@ use Rattle.definition.specs.Day.{log_of}
 use Rattle.definition.specs.Refusals.{enough_room}
 use Rattle.refinement.specs.Alike.{fresh_slots}
 use Rattle.first_line.specs.Took.{Took, line_room}
-use Rattle.first_line.specs.OnSlots.{Play}
+use Rattle.first_line.specs.OnSlots.{Play, no_options}
 use Rattle.lines.specs.OnSlots.{on_slots}
 use Rattle.pieces.specs.Feed.{Fed, stop, joined, go_on, finish}
-use Rattle.runs.specs.Code.{no_options}
 use Rattle.session.specs.Code.{opening}
 use Rattle.replay.specs.declared.Day.{Day}
 use Rattle.replay.specs.Calls.{feed, feed_nil, and_then, ended, some_reads, go_stops}

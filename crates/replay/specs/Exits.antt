@@ -13,9 +13,9 @@ use Rattle.first_line.specs.Took.{Took, line_room}
 use Rattle.first_line.specs.OnSlots.{Play}
 use Rattle.lines.specs.OnSlots.{on_slots}
 use Rattle.pieces.specs.Feed.{View, Fed, go_on, finish}
-use Rattle.runs.specs.Code.{Read}
-use Rattle.session.specs.declared.Session.{Session}
-use Rattle.session.specs.Code.{pool_in, view_in, opening, Begins, Went, Finishes}
+use Rattle.runs.specs.Code.{view_in, Read}
+use Rattle.runs.specs.declared.Session.{Session}
+use Rattle.session.specs.Code.{opening, Begins, Went, Finishes}
 use Rattle.replay.specs.declared.Day.{Day}
 use Rattle.replay.specs.Days.{all?, told_of, day_in, Logged}
 
@@ -24,8 +24,8 @@ module _ (budget : ℕ) (text o o' : List ℕ) (s₀ s : Session) (n w : ℕ) (b
   abbrev got : Fed Play ℕ
   got = go_on on_slots (length o) (opening budget) text
 
-  reading : Read got text o o' s.run (pool_in s) s.scratch n w
-  reading = subst (λ (v : View Play). Read (go_on on_slots (length o) v text) text o o' s.run (pool_in s) s.scratch n w) begins.view went.read
+  reading : Read got text o o' s n w
+  reading = subst (λ (v : View Play). Read (go_on on_slots (length o) v text) text o o' s n w) begins.view went.read
 
   left : length got.rest ≡ length text - n
   left = sym (ap length reading.rest) ∙ length-drop n text
@@ -55,7 +55,7 @@ module _ (budget : ℕ) (text o o' : List ℕ) (s₀ s : Session) (n w : ℕ) (b
       })
 
   abbrev part : Day
-  part = record { whole = false; used = s.run.pace.used; written = w }
+  part = record { whole = false; used = s.replayer.pace.used; written = w }
 
   partly : all? (length o) got ≡ false → Logged (day_in (length o) budget text) o o' part
   unfolding when◌then◌else◌

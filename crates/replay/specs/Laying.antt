@@ -3,10 +3,11 @@ use Rattle.std.specs.Prelude.{◌≡◌, refl, List, [], ◌∷◌, ◌++◌, �
 use Rattle.std.proofs.Common.{sym, ap, ◌∙◌, append_assoc, arith, take-append-drop, length-append, take_at, drop_at, drop-drop, length-take-le}
 use Rattle.std.proofs.Math.Nat.{mod-add-mod}
 use Rattle.slots.specs.OrderLaws.{length_record, length_laid}
-use Rattle.definition.specs.Records.{Record, fields_of}
+use Rattle.definition.specs.Records.{fields_of}
+use Rattle.definition.specs.declared.Record.{Record}
 use Rattle.definition.specs.Bytes.{serial_of, record_bytes}
 use Rattle.definition.specs.Day.{Entry, Said, entry_bytes, numbered, text_of}
-use Rattle.slots.specs.Laid.{laid}
+use Rattle.records.specs.Laid.{laid}
 use Rattle.slots.specs.Done.{lay}
 use Rattle.printing.specs.Printed.{printed, entries_bytes, printed_entries}
 

@@ -1,7 +1,7 @@
 -- The machine on lists: fed with any text, in any pieces, it says the definition's log.
 use Rattle.std.specs.Prelude.{◌≡◌, refl, Bool, true, false, List, [], ◌∷◌, ℕ, suc, ◌+◌, ◌-◌, ◌≤◌, ◌<◌, min, length, take}
 use Rattle.std.proofs.Common.{sym, ap, ◌∙◌, arith, ltb-true, ltb-false}
-use Rattle.std.proofs.Math.Option.{Option, none, some}
+use Rattle.std.specs.Prelude.{Option, None as none, Some as some}
 use Rattle.std.proofs.Math.Seq.{take-nil}
 use Rattle.definition.specs.Words.{when◌then◌else◌, ◌<?◌}
 use Rattle.definition.specs.Pool.{Pool}
@@ -13,7 +13,8 @@ use Rattle.definition.specs.declared.Refusal.{Refusal}
 use Rattle.definition.specs.declared.Refusal.TheVariants.{Malformed}
 use Rattle.first_line.specs.Took.{Took, quiet}
 use Rattle.lines.specs.Machine.{Machine, thereafter}
-use Rattle.pieces.specs.Feed.{held_most, emptied}
+use Rattle.pieces.specs.Feed.{emptied}
+use Rattle.pieces.specs.Holds.{held_most}
 use Rattle.pieces.specs.Cap.{frame_cap, options_cap}
 use Rattle.replay.specs.Calls.{Lend, feed, ended, calls, calls_whole}
 use Rattle.replay.specs.Whole.{Tame, lines, text_lines}

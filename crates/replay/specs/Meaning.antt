@@ -4,7 +4,7 @@ use Rattle.std.proofs.Math.Path.{refl, ap}
 use Rattle.std.proofs.Common.{sym, subst, ◌∙◌, true≢false, append_assoc, append-nil, arith, le-ltb}
 use Rattle.std.proofs.Math.Bool.{true, false}
 use Rattle.std.proofs.lemmas.Bool.{false≢true}
-use Rattle.std.proofs.Math.Option.{Option, none, some}
+use Rattle.std.specs.Prelude.{Option, None as none, Some as some}
 use Rattle.definition.specs.Words.{when◌then◌else◌, ◌<?◌}
 use Rattle.definition.specs.Pool.{Pool, with_defaults, in_range, fresh}
 use Rattle.definition.specs.Refusals as R
@@ -18,8 +18,8 @@ use Rattle.definition.specs.declared.Refusal.{Refusal}
 use Rattle.definition.specs.declared.Refusal.TheVariants.{Malformed, OptionsOutOfRange}
 use Rattle.slots.specs.View.{SlotPool}
 use Rattle.slots.specs.Call.{World, call}
-use Rattle.slots.specs.declared.Outcome.{Outcome}
-use Rattle.slots.specs.declared.Outcome.TheVariants.{Refused}
+use Rattle.slots.specs.Outcome.{Outcome}
+use Rattle.std.specs.declared.result.Result.TheVariants.{Ok, Err}
 use Rattle.refinement.specs.Stands.{Stands}
 use Rattle.refinement.specs.Call.{Refines}
 use Rattle.refinement.proofs.Call.{call_refines}
@@ -31,13 +31,12 @@ use Rattle.first_line.specs.declared.Phase.{Phase}
 use Rattle.first_line.specs.declared.Phase.TheVariants as phase
 use Rattle.first_line.specs.Took.{Took, quiet}
 use Rattle.first_line.specs.OnSlots as O
-use Rattle.first_line.specs.OnSlots.{Play, refused_line}
+use Rattle.first_line.specs.OnSlots.{Play, begun, refused_line}
 use Rattle.frame_lines.specs.OnSlots as F
 use Rattle.frame_lines.specs.OnSlots.{said_of}
 use Rattle.lines.specs.OnSlots as P
 use Rattle.lines.specs.OnSlots.{line_slots, last_slots, on_slots}
 use Rattle.pieces.specs.Feed.{Fed, emptied}
-use Rattle.session.specs.Code.{begun}
 use Rattle.replay.specs.Calls.{Lend, feed, ended, calls, calls_whole}
 use Rattle.replay.specs.Whole.{lines, text_lines, slots_tame}
 use Rattle.replay.specs.Lists as L
@@ -99,7 +98,7 @@ module _ (s : Play) (t : Lists) (m : Pool) (st : Stands s.pool m) (h : Plays s t
   world_says : (w : World) (r : R.Result) → Refines s.pool s.scratch w r → FewIn w.outcome → Says (F.answered s w) (L.answered t m r)
   world_says w (R.Refused x) k few =
       let e = k.refuses x refl in
-      let q : Says (F.answered s (record { pool = s.pool; out = s.scratch; outcome = Refused x })) (L.answered t m (R.Refused x)) =
+      let q : Says (F.answered s (record { pool = s.pool; out = s.scratch; outcome = Err x })) (L.answered t m (R.Refused x)) =
       record {
         plays = record { used = one_more; budget = h.budget; stage = st; room = h.room };
         text = ap (refused_line x) line_number ∙ text_one (RefusedLine x (t.used + 2));

@@ -11,8 +11,9 @@ use Rattle.lines.specs.Machine.{Machine}
 use Rattle.lines.specs.OnSlots.{on_slots}
 use Rattle.pieces.specs.Feed.{View, Fed, stop, joined, emptied, push, line_at, finish, feed_in, go_on, in_true, in_false, in_nil}
 use Rattle.pieces.specs.Chunks.{in_less}
-use Rattle.session.specs.declared.Session.{Session}
-use Rattle.session.specs.Code.{view_in, opening, Begins, Went, Finishes}
+use Rattle.runs.specs.declared.Session.{Session}
+use Rattle.runs.specs.Code.{view_in}
+use Rattle.session.specs.Code.{opening, Begins, Went, Finishes}
 use Rattle.replay.specs.Calls.{feed, feed_true, feed_false, feed_nil, feed_append, and_then, ended}
 use Rattle.replay.specs.Meaning.{Writes}
 use Rattle.replay.specs.Days.{opening_writes}

@@ -3,7 +3,7 @@ use Rattle.std.specs.Prelude.{◌≡◌, Bool, true, false, ℕ, take}
 use Rattle.std.proofs.Math.Path.{refl, sym, ap}
 use Rattle.std.proofs.Common.{◌∙◌}
 use mathlib.Core.List.{List, [], ◌∷◌, ◌++◌, append_assoc, append-nil}
-use Rattle.std.proofs.Math.Option.{Option, none, some}
+use Rattle.std.specs.Prelude.{Option, None as none, Some as some}
 use Rattle.definition.specs.Words.{when◌then◌else◌, ◌<?◌, ◌=?◌}
 use Rattle.definition.specs.Pool.{with_defaults, in_range}
 use Rattle.definition.specs.Bytes.{newline, frame_of_line, options_of_line}
@@ -18,7 +18,8 @@ use Rattle.first_line.specs.OnSlots.{Play, options, ready, badly}
 use Rattle.frame_lines.specs.OnSlots.{answered}
 use Rattle.lines.specs.Machine.{Machine, thereafter}
 use Rattle.lines.specs.OnSlots.{line_in, last_in, line_slots, last_slots, on_slots}
-use Rattle.pieces.specs.Feed.{View, Fed, held_most, joined, emptied, finish}
+use Rattle.pieces.specs.Feed.{View, Fed, joined, emptied, finish}
+use Rattle.pieces.specs.Holds.{held_most}
 use Rattle.pieces.specs.Cap.{cap_append, line_cap}
 use Rattle.replay.specs.Calls.{feed, feed_true, feed_false, feed_nil, ended}
 

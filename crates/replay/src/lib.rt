@@ -9,6 +9,7 @@ use definition::ROOM_LINES;
 // The frames used, how much of the output was written, and whether that is the whole log.
 #[derive(Clone, Copy)]
 pub struct Day {
+    // A flag and no Option: with too little room, too, the counts say what was written.
     pub whole: bool,
     pub used: u64,
     pub written: usize,
@@ -18,24 +19,20 @@ pub struct Day {
 pub fn replay_day(budget: u64, text: &[u8], out: &mut [u8]) -> Day
     ensures { Logged (day_in (length out.old) budget text.now) out.old out.new result }
 {
-    let p = session::go_on(session::begin(budget), text, out);
-    let s = p.session;
+    let mut s = session::begin(budget);
+    let p = session::go_on(&mut s, text, out);
     let n = p.written;
-    if p.read == text.len() {
-        if ROOM_LINES <= out.len() - n {
-            let k = session::finish(s, &mut out[n..]);
-            return Day {
-                whole: true,
-                used: k.used,
-                written: n + k.written,
-            };
-        }
+    if p.read == text.len() && ROOM_LINES <= out.len() - n {
+        let k = session::finish(&mut s, &mut out[n..]);
+        return Day {
+            whole: true,
+            used: k.used,
+            written: n + k.written,
+        };
     }
-    let run = s.run;
-    let pace = run.pace;
     Day {
         whole: false,
-        used: pace.used,
+        used: s.replayer.pace.used,
         written: n,
     }
 }

@@ -1,31 +1,13 @@
 -- What the code says of a day under way.
 use Rattle.std.specs.Prelude.{◌≡◌, List, ◌++◌, ℕ, ◌≤◌, ◌<◌, length, drop, replicate}
 use Rattle.definition.specs.Refusals.{enough_room}
-use Rattle.slots.specs.View.{SlotPool, pool_of}
 use Rattle.refinement.specs.Alike.{fresh_slots}
-use Rattle.first_line.specs.declared.Phase.TheVariants.{First}
 use Rattle.first_line.specs.Took.{Took, line_room}
-use Rattle.first_line.specs.OnSlots.{Play}
+use Rattle.first_line.specs.OnSlots.{Play, begun, no_options}
 use Rattle.lines.specs.OnSlots.{on_slots}
 use Rattle.pieces.specs.Feed.{View, emptied, go_on}
-use Rattle.runs.specs.Code.{view_of, no_options, Resumable, Read}
-use Rattle.session.specs.declared.Session.{Session}
-
--- the pool, and the machine's state with what is held
-abbrev pub pool_in : Session → SlotPool
-pool_in s = pool_of s.head s.numbers s.times s.states s.waiters
-
-abbrev pub view_in : Session → View Play
-view_in s = view_of s.run (pool_in s) s.scratch
-
--- what is asked of a session, and kept
-pub record Ready (s : Session) : Type 0 where
-  pub kept : Resumable s.run (pool_in s)
-  pub long : length s.scratch ≡ enough_room
-
--- before the options line, whatever stands in the pool's place
-abbrev pub begun : (budget : ℕ) → SlotPool → (scratch : List ℕ) → Play
-begun budget p l = record { phase = First; used = 0; budget = budget; pool = p; scratch = l }
+use Rattle.runs.specs.Code.{view_in, Ready, Read}
+use Rattle.runs.specs.declared.Session.{Session}
 
 -- before the first byte
 abbrev pub opening : (budget : ℕ) → View Play
@@ -37,7 +19,7 @@ pub record Begins (budget : ℕ) (s : Session) : Type 0 where
 
 -- n bytes of a text were read, and w written
 pub record Went (s₀ : Session) (text before after : List ℕ) (s : Session) (n w : ℕ) : Type 0 where
-  pub read : Read (go_on on_slots (length before) (view_in s₀) text) text before after s.run (pool_in s) s.scratch n w
+  pub read : Read (go_on on_slots (length before) (view_in s₀) text) text before after s n w
   pub ready : Ready s
   pub within : n ≤ length text
   pub fits : w ≤ length before

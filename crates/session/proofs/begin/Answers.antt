@@ -1,7 +1,5 @@
-use Rattle.std.specs.Prelude.{refl}
 use Rattle.session.specs.Exits.{begins}
 use Rattle.session.proofs.begin.Goals as goal
 
 pub returns : goal.returns
-returns c =
-    begins c.args.budget _ c.begin-run.ensures c.no_head-head.ensures refl refl
+returns c = begins c.args.budget _ c.new.ensures c.new-2.ensures

@@ -1,9 +1,14 @@
 -- What a word asks of a replay.
-use Rattle.std.specs.Prelude.{◌≡◌, true, false, List, [], ◌∷◌, ◌⊎◌, ℕ, ◌+◌, length}
-use Rattle.definition.specs.Words.{when◌then◌else◌, ◌=?◌}
+use Rattle.std.specs.Prelude.{◌≡◌, true, false, List, [], ◌∷◌, ◌⊎◌, ℕ, ◌+◌, length, Option, Some, None, Result, Ok, Err, bytes_eq, if◌then◌else◌}
+use Rattle.std.specs.declared.env.FillError.{FillError}
 use Rattle.arguments.specs.declared.Asked.{Asked}
-use Rattle.spelling.specs.declared.Number.{Number}
-use Rattle.spelling.specs.Spelling.{most, decimal, number_of, same, spelt}
+use Rattle.arguments.specs.declared.Said.{Said}
+use Rattle.arguments.specs.declared.Said.TheVariants.{Whole, Open}
+use Rattle.arguments.specs.declared.Wrong.{Wrong}
+use Rattle.arguments.specs.declared.Wrong.TheVariants.{Missing, TooLarge, Unknown}
+use Rattle.spelling.specs.declared.NumberError.{NumberError}
+use Rattle.spelling.specs.declared.NumberError.TheVariants as number
+use Rattle.spelling.specs.Spelling.{most, decimal, number_of, spelt}
 
 abbrev pub budget_word : List ℕ
 budget_word = spelt "--budget"
@@ -11,55 +16,71 @@ budget_word = spelt "--budget"
 abbrev pub used_word : List ℕ
 used_word = spelt "--used"
 
-module _ (a : Asked) where
-  -- the budget's number
-  abbrev pub with_budget : Number → Asked
-  with_budget n = record { good = n.good; is_large = n.is_large; budget = n.value; is_used = a.is_used; file = a.file; is_number = false }
+-- the budget's number, if it is one
+abbrev pub budget_in : Result ℕ NumberError → Result ℕ Wrong
+budget_in (Ok n) = Ok n
+budget_in (Err number.TooLarge) = Err TooLarge
+budget_in (Err number.NoNumber) = Err Unknown
 
-  abbrev pub before_number : Asked
-  before_number = record { good = a.good; is_large = a.is_large; budget = a.budget; is_used = a.is_used; file = a.file; is_number = true }
+abbrev pub budget_of : List ℕ → Result ℕ Wrong
+budget_of w = budget_in (number_of (decimal w))
+
+module _ (a : Asked) where
+  abbrev pub with_budget : Result ℕ Wrong → Result Said Wrong
+  with_budget (Ok n) = Ok (Whole (record { budget = n; is_used = a.is_used; file = a.file }))
+  with_budget (Err e) = Err e
 
   abbrev pub with_used : Asked
-  with_used = record { good = a.good; is_large = a.is_large; budget = a.budget; is_used = true; file = a.file; is_number = a.is_number }
+  with_used = record { budget = a.budget; is_used = true; file = a.file }
 
   -- the file, or a second one, which is bad
-  abbrev pub with_file : ℕ → Asked
-  with_file i = record { good = a.good; is_large = a.is_large; budget = a.budget; is_used = a.is_used; file = i; is_number = a.is_number }
-
-  abbrev pub bad : Asked
-  bad = record { good = false; is_large = a.is_large; budget = a.budget; is_used = a.is_used; file = a.file; is_number = a.is_number }
+  abbrev pub with_file : ℕ → Option ℕ → Result Said Wrong
+  with_file i None = Ok (Whole (record { budget = a.budget; is_used = a.is_used; file = Some i }))
+  with_file i (Some j) = Err Unknown
 
 -- the words so far, and the word that is argument i
-unfoldable pub asked : Asked → (i : ℕ) → List ℕ → Asked
-asked a i w =
-    when a.is_number then with_budget a (number_of (decimal w))
-    else when same w budget_word then before_number a
-    else when same w used_word then with_used a
-    else when a.file =? 0 then with_file a i
-    else bad a
+abbrev pub asked : Said → (i : ℕ) → List ℕ → Result Said Wrong
+asked (Open a) i w = with_budget a (budget_of w)
+asked (Whole a) i w =
+    if bytes_eq w budget_word then Ok (Open a)
+    else if bytes_eq w used_word then Ok (Whole (with_used a))
+    else with_file a i a.file
+
+-- some word was read
+pub record Word (s : Said) (i : ℕ) (r : Result Said Wrong) : Type 0 where
+  pub word : List ℕ
+  pub is : r ≡ asked s i word
+
+-- an argument could not be had
+pub record Lacks {A : Type 0} (r : Result A Wrong) : Type 0 where
+  pub why : FillError
+  pub is : r ≡ Err (Missing why)
 
 -- an argument that some word is, or that can't be had
-pub record Word (a : Asked) (i : ℕ) (r : Asked) : Type 0 where
-  pub word : List ℕ
-  pub is : r ≡ asked a i word
-
-abbrev pub Takes : Asked → (i : ℕ) → Asked → Type 0
-Takes a i r = Word a i r ⊎ (r ≡ bad a)
+abbrev pub Takes : Said → (i : ℕ) → Result Said Wrong → Type 0
+Takes s i r = Word s i r ⊎ Lacks r
 
 -- before the first: all frames are taken
-abbrev pub nothing : Asked
-nothing = record { good = true; is_large = false; budget = most; is_used = false; file = 0; is_number = false }
+abbrev pub nothing : Said
+nothing = Whole (record { budget = most; is_used = false; file = None })
+
+-- behind good words a word is read, and behind a bad one none
+abbrev pub behind : Result Said Wrong → (i : ℕ) → List ℕ → Result Said Wrong
+behind (Ok s) i w = asked s i w
+behind (Err e) i w = Err e
 
 -- all words, the last one first, up to a bad one
-unfoldable pub said : List (List ℕ) → Asked
-said [] = nothing
-said (w ∷ l) = when (said l).good then asked (said l) (length l + 1) w else said l
+unfoldable pub said : List (List ℕ) → Result Said Wrong
+said [] = Ok nothing
+said (w ∷ l) = behind (said l) (length l + 1) w
 
 -- no number came behind --budget
-abbrev pub closed : Asked → Asked
-closed a = when a.is_number then bad a else a
+abbrev pub closed : Result Said Wrong → Result Asked Wrong
+closed (Ok (Whole a)) = Ok a
+closed (Ok (Open a)) = Err Unknown
+closed (Err e) = Err e
 
--- what some words ask, or what they do where the argument behind them can't be had
-pub record Reads (r : Asked) : Type 0 where
+-- what some words ask, or that the argument behind them can't be had
+pub record Reads (r : Result Asked Wrong) : Type 0 where
   pub words : List (List ℕ)
-  pub are : (r ≡ closed (said words)) ⊎ (r ≡ bad (said words))
+  pub are : (r ≡ closed (said words)) ⊎ Lacks r

@@ -1,107 +1,111 @@
 // What the arguments of a replay ask: [--budget N] [--used] [FILE].
 #![tactic(auto)]
 
-ghost use Rattle.std.specs.Prelude.{◌≡◌};
-ghost use Rattle.arguments.specs.Asked.{asked, Takes, Reads};
+ghost use Rattle.std.specs.Prelude.{◌≡◌, Err};
+ghost use Rattle.arguments.specs.Asked.{budget_in, budget_of, asked, Takes, Reads};
+ghost use Rattle.arguments.specs.declared.Wrong.TheVariants.{Missing};
 
+use spelling::NumberError;
 use std::env::{Env, FillError};
-use std::io::Error;
 
-// The system's numbers for a name that is too long, and for an argument that isn't one.
-const ENAMETOOLONG: i32 = 36;
+// What is wrong with them.
+#[derive(Clone, Copy)]
+pub enum Wrong {
+    // one can't be had
+    Missing(FillError),
+    // the budget is above 64 bits
+    TooLarge,
+    // a word asks nothing, or is left out
+    Unknown,
+}
 
-const EINVAL: i32 = 22;
+impl From<FillError> for Wrong {
+    ghost from_gives = { λ e w. w ≡ Missing e };
 
-// What the words so far ask: the budget, whether the frames used are told, and which argument is the file, 0 for none; and
-// whether the budget's number comes next. Where not `good`, whether the number was too large.
+    fn from(e: FillError) -> Wrong {
+        Wrong::Missing(e)
+    }
+}
+
+impl From<NumberError> for Wrong {
+    ghost from_gives = { λ e w. budget_in (Err e) ≡ Err w };
+
+    fn from(e: NumberError) -> Wrong {
+        match e {
+            NumberError::TooLarge => Wrong::TooLarge,
+            NumberError::NoNumber => Wrong::Unknown,
+        }
+    }
+}
+
+// The budget, whether the frames used are told, and which argument is the file.
 #[derive(Clone, Copy)]
 pub struct Asked {
-    pub good: bool,
-    pub is_large: bool,
     pub budget: u64,
     pub is_used: bool,
-    pub file: usize,
-    pub is_number: bool,
+    pub file: Option<usize>,
+}
+
+// What the words so far ask, and whether any word may come next.
+#[derive(Clone, Copy)]
+enum Said {
+    Whole(Asked),
+    // the budget's number comes
+    Open(Asked),
+}
+
+fn budget_of(word: &[u8]) -> Result<u64, Wrong>
+    ensures { result ≡ budget_of word.now }
+{
+    Ok(spelling::number_of(word)?)
 }
 
 // One word more, the argument i.
-fn take_word(a: Asked, i: usize, word: &[u8]) -> Asked
-    ensures { result ≡ asked a i word.now }
+fn take_word(said: Said, i: usize, word: &[u8]) -> Result<Said, Wrong>
+    ensures { result ≡ asked said i word.now }
 {
-    let mut r = a;
-    if r.is_number {
-        let n = spelling::number_of(word);
-        r.budget = n.value;
-        r.good = n.good;
-        r.is_large = n.is_large;
-        r.is_number = false;
-        return r;
+    match said {
+        Said::Open(a) => Ok(Said::Whole(Asked {
+            budget: budget_of(word)?,
+            ..a
+        })),
+        Said::Whole(a) => {
+            if word == b"--budget".as_slice() {
+                Ok(Said::Open(a))
+            } else if word == b"--used".as_slice() {
+                Ok(Said::Whole(Asked { is_used: true, ..a }))
+            } else if a.file.is_none() {
+                Ok(Said::Whole(Asked { file: Some(i), ..a }))
+            } else {
+                Err(Wrong::Unknown)
+            }
+        }
     }
-    if check::same(word, b"--budget") {
-        r.is_number = true;
-        return r;
-    }
-    if check::same(word, b"--used") {
-        r.is_used = true;
-        return r;
-    }
-    if r.file == 0 {
-        r.file = i;
-        return r;
-    }
-    r.good = false;
-    r
-}
-
-// Why an argument can't be had.
-pub fn tell(e: FillError) {
-    let number = match e {
-        FillError::TooLong => ENAMETOOLONG,
-        FillError::NotPresent => EINVAL,
-    };
-    standard::fail(b"argument", &Error::from_raw_os_error(number));
 }
 
 // The argument i, whatever it is, or a refusal where it can't be had.
-fn take_argument<E: Env>(env: &E, a: Asked, i: usize) -> Asked
-    ensures { Takes a i result }
+fn take_argument<E: Env>(env: &E, said: Said, i: usize) -> Result<Said, Wrong>
+    ensures { Takes said i result }
 {
-    let mut r = a;
     let mut word = io::buffer();
-    match env.arg(i, &mut word) {
-        Ok(n) => take_word(a, i, &word[..n]),
-        Err(e) => {
-            tell(e);
-            r.good = false;
-            r
-        }
-    }
+    let n = env.arg(i, &mut word)?;
+    take_word(said, i, &word[..n])
 }
 
 // What all of them ask; without a budget, all frames are taken.
-pub fn read<E: Env>(env: &E) -> Asked
+pub fn read<E: Env>(env: &E) -> Result<Asked, Wrong>
     ensures { Reads result }
 {
-    let mut a = Asked {
-        good: true,
-        is_large: false,
+    let mut said = Said::Whole(Asked {
         budget: u64::MAX,
         is_used: false,
-        file: 0,
-        is_number: false,
-    };
-    let n = standard::arg_count(env);
-    let mut i: usize = 1;
-    while i < n {
-        a = take_argument(env, a, i);
-        if !a.good {
-            return a;
-        }
-        i += 1;
+        file: None,
+    });
+    for i in 1..standard::arg_count(env) {
+        said = take_argument(env, said, i)?;
     }
-    if a.is_number {
-        a.good = false;
-        return a;
+    match said {
+        Said::Whole(a) => Ok(a),
+        Said::Open(_) => Err(Wrong::Unknown),
     }
-    a
 }

@@ -10,164 +10,144 @@
 //   c        the pool's counts
 #![tactic(auto)]
 
-use definition::{LINE, RECORD, ROOM, ROOM_LINES};
+use definition::{FRAME, LINE, RECORD, ROOM, ROOM_LINES, Refusal};
 use pool::Pool;
 use slots::Outcome;
-use standard::{STDIN_FILENO, STDOUT_FILENO};
-
-// ── what is said ──
-
-fn say(s: &[u8]) {
-    io::write_all(STDOUT_FILENO, s);
-}
-
-fn number(x: u64) {
-    io::print_decimal(STDOUT_FILENO, x);
-    say(b"\n");
-}
-
-fn records(out: &[u8], n: usize) {
-    if n == 0 {
-        say(b"no records\n");
-        return;
-    }
-    if n <= ROOM / RECORD {
-        if ROOM <= out.len() {
-            let mut line = [0u8; ROOM_LINES];
-            printing::print_records(out, n, &mut line);
-            let end = n * LINE;
-            say(&line[0..end]);
-        }
-    }
-}
-
-fn show(o: Outcome, out: &[u8]) {
-    match o {
-        Outcome::Refused(r) => {
-            say(b"refused ");
-            number(refusals::refusal_number(r) as u64);
-        }
-        Outcome::Accepted(n) => {
-            records(out, n as usize);
-        }
-    }
-}
-
-// ── calls ──
-
-fn call(p: Pool, kind: u8, frame: &[u8], out: &mut [u8]) -> Pool {
-    let s = local_pool::once(p, frame, out);
-    let o = s.outcome;
-    if kind != b's' {
-        show(o, out);
-    }
-    s.pool
-}
+use standard::{Output, STDIN_FILENO};
 
 const SHORT: usize = ROOM - 1;
 
-fn play(p: Pool, kind: u8, frame: &[u8]) -> Pool {
-    if kind == b'x' {
+// A script under way: where it is said, the pool and the one that is kept.
+#[derive(Drop)]
+struct Player<'a, P> {
+    to: &'a P,
+    pool: Pool,
+    kept: Pool,
+}
+
+impl<'a, P: Print> Player<'a, P> {
+    // ── what is said ──
+
+    fn say(&self, words: &[u8]) {
+        let _ = self.to.write_all(words);
+    }
+
+    fn refused(&self, refusal: Refusal) {
+        let _ = println!(self.to; "refused {}", u8::from(refusal));
+    }
+
+    fn records(&self, out: &[u8], n: usize) {
+        if n <= ROOM / RECORD && ROOM <= out.len() {
+            let mut lines = [0u8; ROOM_LINES];
+            printing::print_records(out, n, &mut lines);
+            self.say(&lines[..n * LINE]);
+        }
+    }
+
+    fn show(&self, outcome: Outcome, out: &[u8]) {
+        match outcome {
+            Err(refusal) => self.refused(refusal),
+            Ok(0) => self.say(b"no records\n"),
+            Ok(n) => self.records(out, n as usize),
+        }
+    }
+
+    fn counts(&self) {
+        let c = self.pool.counts();
+        let _ = println!(self.to; "available {}\nlent {}", c.available, c.lent);
+        let _ = println!(self.to; "pending {}\nwaiting {}", c.pending, c.waiting);
+    }
+
+    // ── calls ──
+
+    fn call(&mut self, frame: &[u8], out: &mut [u8]) -> Outcome {
+        let stepped = local_pool::once(self.pool, frame, out);
+        self.pool = stepped.pool;
+        stepped.outcome
+    }
+
+    fn play(&mut self, frame: &[u8]) {
+        let mut out = [0u8; ROOM];
+        let outcome = self.call(frame, &mut out);
+        self.show(outcome, &out);
+    }
+
+    fn play_unsaid(&mut self, frame: &[u8]) {
+        let _ = self.call(frame, &mut [0u8; ROOM]);
+    }
+
+    fn play_short(&mut self, frame: &[u8]) {
         let mut out = [7u8; SHORT];
-        let q = call(p, kind, frame, &mut out);
-        if check::same(&out, &[7u8; SHORT]) {
-            say(b"unchanged\n");
+        let outcome = self.call(frame, &mut out);
+        self.show(outcome, &out);
+        if out.iter().all(|b| *b == 7) {
+            self.say(b"unchanged\n");
         }
-        return q;
     }
-    let mut out = [0u8; ROOM];
-    call(p, kind, frame, &mut out)
-}
 
-fn counts(p: Pool) {
-    let c = p.counts();
-    say(b"available ");
-    number(c.available as u64);
-    say(b"lent ");
-    number(c.lent as u64);
-    say(b"pending ");
-    number(c.pending as u64);
-    say(b"waiting ");
-    number(c.waiting as u64);
-}
-
-fn made(options: &[u8]) -> Pool {
-    let m = Pool::from_bytes(options);
-    let o = m.outcome;
-    match o {
-        Outcome::Refused(_) => show(o, options),
-        Outcome::Accepted(_) => {}
-    }
-    m.pool
-}
-
-// ── the script ──
-
-fn on_bytes(p: Pool, kind: u8, bytes: [u8; 24]) -> Pool {
-    match kind {
-        b'f' | b's' | b'x' => play(p, kind, &bytes),
-        b'o' => made(&bytes),
-        b'O' => made(&bytes[1..]),
-        b'd' => damage::damaged(
-            p,
-            bytes[0],
-            words::as_index(bytes[1]),
-            big_endian::u64_at(&bytes, 16),
-        ),
-        _ => p,
-    }
-}
-
-fn on_line(p: Pool, kept: Pool, kind: u8, rest: &[u8]) -> Pool {
-    match kind {
-        b'#' => {
-            say(rest);
-            p
+    fn make(&mut self, options: &[u8]) {
+        let made = Pool::from_bytes(options);
+        self.pool = made.pool;
+        if let Err(refusal) = made.outcome {
+            self.refused(refusal);
         }
-        b':' => {
-            if 1 <= rest.len() {
-                let end = rest.len() - 1;
-                say(&rest[0..end]);
+    }
+
+    fn damage(&mut self, bytes: &[u8; FRAME]) {
+        let x = big_endian::u64_at(bytes, 16);
+        self.pool = damage::damaged(self.pool, bytes[0], bytes[1] as usize, x);
+    }
+
+    // ── the script ──
+
+    fn bytes(&mut self, kind: u8, bytes: &[u8; FRAME]) {
+        match kind {
+            b'f' => self.play(bytes),
+            b's' => self.play_unsaid(bytes),
+            b'x' => self.play_short(bytes),
+            b'o' => self.make(bytes),
+            b'O' => self.make(&bytes[1..]),
+            b'd' => self.damage(bytes),
+            _ => {}
+        }
+    }
+
+    fn line(&mut self, kind: u8, rest: &[u8]) {
+        match kind {
+            b'#' => self.say(rest),
+            b':' => {
+                if let Some((_, words)) = rest.split_last() {
+                    self.say(words);
+                }
             }
-            p
-        }
-        b'c' => {
-            counts(p);
-            p
-        }
-        b'b' => kept,
-        _ => {
-            let l = digits::line_bytes(rest);
-            if l.good {
-                let bytes = l.bytes;
-                return on_bytes(p, kind, bytes);
+            b'c' => self.counts(),
+            b'k' => self.kept = self.pool,
+            b'b' => self.pool = self.kept,
+            _ => {
+                if let Some(bytes) = digits::line_bytes(rest) {
+                    self.bytes(kind, &bytes);
+                }
             }
-            p
         }
     }
 }
 
-fn run(text: &[u8]) {
-    let m = Pool::from_bytes(&[0u8; 24]);
-    let mut p = m.pool;
-    let mut kept = p;
-    let mut at: usize = 0;
-    while at < text.len() {
-        let end = newlines::line_end(text, at);
-        if end <= at {
-            return;
+fn run<P: Print>(to: &P, text: &[u8]) {
+    let pool = Pool::from_bytes(&[0u8; FRAME]).pool;
+    let mut player = Player {
+        to,
+        pool,
+        kept: pool,
+    };
+    for line in text.split_inclusive(|b| *b == b'\n') {
+        if let Some((kind, rest)) = line.split_first() {
+            player.line(*kind, rest);
         }
-        let kind = text[at];
-        if kind == b'k' {
-            kept = p;
-        }
-        p = on_line(p, kept, kind, &text[at + 1..end]);
-        at = end;
     }
 }
 
 fn main() {
     let mut text = io::large_buffer();
     let n = io::read_full(STDIN_FILENO, &mut text);
-    run(&text[..n]);
+    run(&Output, &text[..n]);
 }

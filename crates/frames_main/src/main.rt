@@ -3,8 +3,8 @@
 #![tactic(auto)]
 
 use definition::{DAY_LINE, FRAME, Options};
-use standard::{STDIN_FILENO, STDOUT_FILENO};
-use writing::Written;
+use standard::{Output, STDIN_FILENO};
+use std::io::{Error, ErrorKind};
 
 const FRAMES: usize = 512;
 
@@ -12,42 +12,38 @@ const PIECE: usize = FRAME * FRAMES;
 
 const LINES: usize = DAY_LINE * (FRAMES + 1);
 
-// The lines of a piece go out, behind the options' line where it is the first.
-fn send(w: Written, from: usize, out: &[u8]) -> bool {
-    match w {
-        Written::Refused(_) => false,
-        Written::Bytes(n) => {
-            if n <= out.len() {
-                if from <= n {
-                    return io::write_all(STDOUT_FILENO, &out[from..n]);
-                }
-            }
-            false
-        }
-    }
+const NO_OPTIONS: Options = Options {
+    maximum: 0,
+    minimum: 0,
+    connecting: 0,
+    idle: 0,
+};
+
+// The lines of a piece, behind the options' line where it is the first.
+fn send<P: Print>(to: &P, frames: &[u8], is_first: bool, out: &mut [u8]) -> std::io::Result<()> {
+    let n = writing::write_day(NO_OPTIONS, frames, out).map_err(|_| Error::from(
+        ErrorKind::InvalidData,
+    ))?;
+    let from = if is_first { 0 } else { DAY_LINE };
+    let lines = out.get(from..n).ok_or(Error::from(ErrorKind::InvalidData))?;
+    to.write_all(lines)
 }
 
-fn main() {
+fn send_all<P: Print>(to: &P) -> std::io::Result<()> {
     let mut frames = [0u8; PIECE];
     let mut out = [0u8; LINES];
-    let mut from: usize = 0;
-    let mut left: u64 = u64::MAX;
-    while 0 < left {
+    // `loop` wants a measure, and a reader has none
+    for turn in 0..u64::MAX {
         let n = io::read_full(STDIN_FILENO, &mut frames);
         if n == 0 {
-            return;
+            break;
         }
-        let options = Options {
-            maximum: 0,
-            minimum: 0,
-            connecting: 0,
-            idle: 0,
-        };
-        let w = writing::write_day(options, &frames[..n], &mut out);
-        if !send(w, from, &out) {
-            return;
-        }
-        from = DAY_LINE;
-        left -= 1;
+        send(to, &frames[..n], turn == 0, &mut out)?;
     }
+    Ok(())
+}
+
+// Nothing is said of why it stops.
+fn main() {
+    let _ = send_all(&Output);
 }

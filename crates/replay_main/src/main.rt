@@ -6,11 +6,11 @@
 // log is written.
 #![tactic(auto)]
 
-ghost use Rattle.std.specs.Prelude.{true, ◌≡◌};
+ghost use Rattle.std.specs.Prelude.{IfOk};
 ghost use Rattle.stream.specs.Streams.{Plays};
 
-use arguments::Asked;
-use standard::STDERR_FILENO;
+use arguments::{Asked, Wrong};
+use standard::Failure;
 use std::env::Env;
 use std::fs::File;
 use std::io::{Error, ErrorKind};
@@ -24,63 +24,49 @@ fn open(rt: &HostRuntime, path: &[u8]) -> std::io::Result<File> {
     }
 }
 
-// The day that the arguments ask for: that of the file, or of standard input.
-fn replay(rt: &HostRuntime, a: Asked) -> Played
-    ensures { result.good ≡ true → Plays a.budget result }
+// The day that the arguments ask for: that of the file, whose name is put into `path`, or of standard input.
+fn replay<'a>(rt: &HostRuntime, a: Asked, path: &'a mut [u8]) -> Result<Played, Failure<'a>>
+    ensures { IfOk result (Plays a.budget) }
 {
-    if a.file == 0 {
+    let Some(file) = a.file else {
         return stream::play(rt, &mut rt.stdin(), b"standard input", a.budget);
-    }
-    let mut path = io::buffer();
-    let n = match rt.arg(a.file, &mut path) {
-        Ok(n) => n,
-        Err(e) => {
-            arguments::tell(e);
-            return stream::broken();
-        }
     };
-    match open(rt, &path[..n]) {
-        Ok(file) => {
-            let mut day = file;
-            stream::play(rt, &mut day, &path[..n], a.budget)
-        }
-        Err(e) => {
-            standard::fail(&path[..n], &e);
-            stream::broken()
-        }
+    let n = match rt.arg(file, path) {
+        Ok(n) => n,
+        Err(e) => return Err(Failure::Argument(e)),
+    };
+    let name = &path[..n];
+    match open(rt, name) {
+        Ok(mut day) => stream::play(rt, &mut day, name, a.budget),
+        Err(e) => Err(Failure::Reading(name, e)),
     }
 }
 
-fn tell_used(used: u64) {
-    io::write_all(STDERR_FILENO, b"frames used: ");
-    io::print_decimal(STDERR_FILENO, used);
-    io::write_all(STDERR_FILENO, b"\n");
-}
-
-fn tell_usage(is_large: bool) {
-    if is_large {
-        io::write_all(
-            STDERR_FILENO,
-            b"replay_main: the budget is too large: 18446744073709551615 is the largest\n",
-        );
-        return;
+fn tell_usage(rt: &HostRuntime, wrong: Wrong) {
+    if let Wrong::Missing(e) = wrong {
+        Failure::Argument(e).tell(&rt.stderr());
     }
-    io::write_all(
-        STDERR_FILENO,
-        b"usage: replay_main [--budget N] [--used] [FILE]\n",
-    );
+    let _ = match wrong {
+        Wrong::TooLarge => eprintln!(rt;
+            "replay_main: the budget is too large: 18446744073709551615 is the largest"
+        ),
+        Wrong::Missing(_) | Wrong::Unknown => eprintln!(rt;
+            "usage: replay_main [--budget N] [--used] [FILE]"
+        ),
+    };
 }
 
 fn main(rt: HostRuntime) {
-    let a = arguments::read(&rt);
-    if !a.good {
-        tell_usage(a.is_large);
-        return;
-    }
-    let r = replay(&rt, a);
-    if r.good {
-        if a.is_used {
-            tell_used(r.used);
+    let asked = match arguments::read(&rt) {
+        Ok(asked) => asked,
+        Err(wrong) => return tell_usage(&rt, wrong),
+    };
+    match replay(&rt, asked, &mut io::buffer()) {
+        Ok(played) => {
+            if asked.is_used {
+                let _ = eprintln!(rt; "frames used: {}", played.used);
+            }
         }
+        Err(failure) => failure.tell(&rt.stderr()),
     }
 }

@@ -1,108 +1,29 @@
 -- What the code says of a text in words that is read and written: the text so far, and how much was told and sent.
-use Rattle.std.specs.Prelude.{◌≡◌, refl, Bool, List, [], ◌++◌, ℕ, ◌+◌, ◌-◌, ◌≤◌, ◌<◌, length, take, drop}
-use Rattle.std.proofs.Common.{sym, ap, subst, ◌∙◌, arith, length-append, length-take, length-drop, take_at, take-add, take-take}
-use Rattle.std.proofs.Math.Seq.{take-length}
+use Rattle.std.specs.Prelude.{◌≡◌, refl, List, [], ◌++◌, ℕ, ◌+◌, ◌≤◌, length}
+use Rattle.std.proofs.Common.{sym, ap, subst, ◌∙◌, arith, length-append}
 use Rattle.draft.specs.declared.Draft.{Draft}
-use Rattle.draft.specs.declared.Step.{Step}
-use Rattle.draft.specs.Draft.{Text, Fault, start, text_taken, line_ended, closed, day_told, faults_told}
-use Rattle.draft.specs.Steps.{Ready, text_of, Begins, Stepped, GoesOn, Finishes}
+use Rattle.draft.specs.Draft.{Text, start, text_taken, line_ended, closed, day_told}
+use Rattle.draft.specs.Steps.{text_of, end_room, Begins}
 use Rattle.draft.specs.Laws.{Ahead, taken_append, follows, follows_end}
 use Rattle.wording.specs.Held.{view_of}
 use Rattle.scribe.specs.declared.Passed.{Passed}
 
--- the text s is under way as d; behind m₀ mistakes and c₀ bytes there are m and c with its own
-pub record Led (s : Text) (m₀ c₀ : ℕ) (d : Draft) (m c : ℕ) : Type 0 where
-  pub ready : Ready d
+-- the text s is under way as d, its bytes are the log, and behind m₀ mistakes there are m with its own
+pub record Led (s : Text) (m₀ : ℕ) (log : List ℕ) (d : Draft) (m : ℕ) : Type 0 where
   pub reading : view_of d.line ≡ s.reading
   pub line : d.number ≡ s.line
   pub heading : d.heading ≡ s.heading
   pub mistakes : m ≡ m₀ + length s.mistakes
-  pub sent : c ≡ c₀ + length s.out
+  pub out : log ≡ s.out
 
-pub none_more : (n : ℕ) → n ≡ n + 0
-none_more n = omega arith
+-- from d₀ the text was taken whole
+abbrev pub Follows : Draft → (mistakes : ℕ) → (text log : List ℕ) → Draft → ℕ → Type 0
+Follows d₀ m₀ text log d m = Led (text_taken (text_of d₀) text) m₀ log d m
 
--- ── A piece ────────────────────────────────────────────────────────────────────────────────────────────────────────────────
-
-abbrev pub Drains : Draft → (mistakes sent : ℕ) → List ℕ → Draft → ℕ → ℕ → Type 0
-Drains d₀ m₀ c₀ text d m c = Led (text_taken (text_of d₀) text) m₀ c₀ d m c
-
-pub drains_start : (d : Draft) (m c : ℕ) (text : List ℕ) → Ready d → Drains d m c (take 0 text) d m c
-unfolding text_taken
-drains_start d m c text r = record { ready = r; reading = refl; line = refl; heading = refl; mistakes = omega arith; sent = omega arith }
-
--- as many bytes as a step says are what it laid
-laid_length : (s : Text) (lent : List ℕ) (r : Step) (left : List ℕ) → Stepped s lent r left → length (take r.written left) ≡ length s.out
-laid_length s lent r left k =
-    let p = k.laid in
-    ap length (ap (take r.written) p.out ∙ take_at s.out (drop (length s.out) lent) r.written (sym p.count))
-
--- a text, and what follows it
-led_on : (s x b : Text) (m₀ c₀ : ℕ) (d : Draft) (m c : ℕ) (d' : Draft) (m' c' : ℕ) → Led s m₀ c₀ d m c → Ahead s.out s.mistakes x b → Led b m c d' m' c' → Led x m₀ c₀ d' m' c'
-led_on s x b m₀ c₀ d m c d' m' c' l a k =
-    let e : length x.mistakes ≡ length s.mistakes + length b.mistakes = ap length a.mistakes ∙ length-append s.mistakes b.mistakes in
-    let f : length x.out ≡ length s.out + length b.out = ap length a.out ∙ length-append s.out b.out in
-    record {
-      ready = k.ready;
-      reading = k.reading ∙ sym a.reading;
-      line = k.line ∙ sym a.line;
-      heading = k.heading ∙ sym a.heading;
-      mistakes = omega (arith, k.mistakes, l.mistakes, e);
-      sent = omega (arith, k.sent, l.sent, f);
-    }
-
--- what a step leaves, counted
-led_step : (b : Text) (m c : ℕ) (lent : List ℕ) (r : Step) (left : List ℕ) (m' c' : ℕ) → Stepped b lent r left → c' ≡ c + length (take r.written left)
-    → m' ≡ m + length (faults_told r.number r.told) → Led b m c r.draft m' c'
-led_step b m c lent r left m' c' k p q = record {
-  ready = k.ready;
-  reading = k.reading;
-  line = k.line;
-  heading = k.heading;
-  mistakes = q ∙ ap (λ (l : List Fault). m + length l) k.mistakes;
-  sent = p ∙ ap (λ (i : ℕ). c + i) (laid_length b lent r left k);
-}
-
-pub drains_step : (d₀ : Draft) (m₀ c₀ : ℕ) (t : List ℕ) (d : Draft) (m c at e : ℕ) (lent : List ℕ) (r : Step) (left : List ℕ) (m' c' : ℕ)
-    → Drains d₀ m₀ c₀ (take at t) d m c → GoesOn d (take (e - at) (drop at t)) lent r left → r.read ≤ e - at → c' ≡ c + length (take r.written left)
-    → m' ≡ m + length (faults_told r.number r.told) → Drains d₀ m₀ c₀ (take (at + r.read) t) r.draft m' c'
-drains_step d₀ m₀ c₀ t d m c at e lent r left m' c' l g h p q =
-    let u : List ℕ = take r.read (take (e - at) (drop at t)) in
-    let s : Text = text_taken (text_of d₀) (take at t) in
-    let j : take at t ++ u ≡ take (at + r.read) t = ap (λ (x : List ℕ). take at t ++ x) (take-take r.read (e - at) (drop at t) h) ∙ sym (take-add at r.read t) in
-    let z : text_taken s u ≡ text_taken (text_of d₀) (take (at + r.read) t) = sym (taken_append (text_of d₀) (take at t) u) ∙ ap (text_taken (text_of d₀)) j in
-    subst (λ (x : Text). Led x m₀ c₀ r.draft m' c') z
-    (led_on s (text_taken s u) (text_taken (text_of d) u) m₀ c₀ d m c r.draft m' c' l (follows s d l.reading l.line l.heading u)
-    (led_step (text_taken (text_of d) u) m c lent r left m' c' g.leaves p q))
-
--- some of a piece was taken, and no more than there is
-pub moved : (t : List ℕ) (at n : ℕ) → at < length t → n ≤ length (take (length t - at) (drop at t)) → (0 < length (take (length t - at) (drop at t)) → 0 < n)
-    → (0 < n) × (n ≤ length t - at)
-moved t at n h k m =
-    let e : length (take (length t - at) (drop at t)) ≡ length t - at = simp (length-take, length-drop) (omega (arith, h)) in
-    (m (omega (arith, e, h)), omega (arith, k, e))
-
-pub drains_all : (d₀ : Draft) (m₀ c₀ : ℕ) (t : List ℕ) (d : Draft) (m c at : ℕ) → at ≡ length t → Drains d₀ m₀ c₀ (take at t) d m c → Drains d₀ m₀ c₀ t d m c
-drains_all d₀ m₀ c₀ t d m c at e l = subst (λ (x : List ℕ). Drains d₀ m₀ c₀ x d m c) (ap (λ (i : ℕ). take i t) e ∙ take-length t) l
-
--- ── The end ────────────────────────────────────────────────────────────────────────────────────────────────────────────────
-
-pub record Ends (d : Draft) (got m c : ℕ) (r : Passed) : Type 0 where
-  pub read : r.read ≡ got
-  pub mistakes : r.mistakes ≡ m + length (closed (line_ended (text_of d))).mistakes
-  pub sent : r.sent ≡ c + length (closed (line_ended (text_of d))).out
-
-pub ends : (d : Draft) (got m c : ℕ) (lent : List ℕ) (s : Step) (left : List ℕ) (good : Bool) (n k : ℕ) → Finishes d lent s left → k ≡ c + length (take s.written left)
-    → n ≡ m + length (faults_told s.number s.told) → Ends d got m c (record { good = good; read = got; mistakes = n; sent = k })
-ends d got m c lent s left good n k f p q =
-    let t : Text = closed (line_ended (text_of d)) in
-    record {
-      read = refl;
-      mistakes = q ∙ ap (λ (l : List Fault). m + length l) f.leaves.mistakes;
-      sent = p ∙ ap (λ (i : ℕ). c + i) (laid_length t lent s left f.leaves);
-    }
-
--- ── A text ─────────────────────────────────────────────────────────────────────────────────────────────────────────────────
+-- the text's end: what it lays, and all mistakes
+pub record Ended (d : Draft) (m₀ : ℕ) (rest : List ℕ) (m : ℕ) : Type 0 where
+  pub mistakes : m ≡ m₀ + length (closed (line_ended (text_of d))).mistakes
+  pub out : rest ≡ (closed (line_ended (text_of d))).out
 
 -- some text was read, as long as the count says; its mistakes and the bytes of its day are as many as were counted
 pub record Passes (r : Passed) : Type 0 where
@@ -111,50 +32,50 @@ pub record Passes (r : Passed) : Type 0 where
   pub mistakes : r.mistakes ≡ length (day_told text).mistakes
   pub sent : r.sent ≡ length (day_told text).out
 
--- between two reads
-pub record Going (d : Draft) (got m c : ℕ) : Type 0 where
-  pub text : List ℕ
-  pub read : got ≡ length text
-  pub led : Led (text_taken start text) 0 0 d m c
+-- ── As what takes a text ───────────────────────────────────────────────────────────────────────────────────────────────────
 
-pub going_begin : (d : Draft) → Begins d → Going d 0 0 0
+pub follows_none : (d : Draft) (m : ℕ) → Follows d m [] [] d m
 unfolding text_taken
-going_begin d b = record {
-  text = [];
-  read = refl;
-  led = record {
-    ready = b.ready;
-    reading = ap (λ (t : Text). t.reading) b.is;
-    line = ap (λ (t : Text). t.line) b.is;
-    heading = ap (λ (t : Text). t.heading) b.is;
-    mistakes = refl;
-    sent = refl;
-  };
-}
+follows_none d m = record { reading = refl; line = refl; heading = refl; mistakes = omega arith; out = refl }
 
-pub going_more : (d : Draft) (got m c : ℕ) (piece : List ℕ) (n : ℕ) (d' : Draft) (m' c' : ℕ) → n ≡ length piece → Going d got m c → Drains d m c piece d' m' c' → Going d' (got + n) m' c'
-going_more d got m c piece n d' m' c' e g l =
-    let s : Text = text_taken start g.text in
-    let a = follows s d g.led.reading g.led.line g.led.heading piece in
+-- a text, and what follows it
+led_on : (s x b : Text) (m₀ : ℕ) (l : List ℕ) (d : Draft) (m : ℕ) (k : List ℕ) (d' : Draft) (m' : ℕ) → Led s m₀ l d m → Ahead s.out s.mistakes x b → Led b m k d' m'
+    → Led x m₀ (l ++ k) d' m'
+led_on s x b m₀ l d m k d' m' f a g =
+    let e : length x.mistakes ≡ length s.mistakes + length b.mistakes = ap length a.mistakes ∙ length-append s.mistakes b.mistakes in
     record {
-      text = g.text ++ piece;
-      read = omega (arith, g.read, length-append g.text piece, e);
-      led = subst (λ (y : Text). Led y 0 0 d' m' c') (sym (taken_append start g.text piece))
-          (led_on s (text_taken s piece) (text_taken (text_of d) piece) 0 0 d m c d' m' c' g.led a l);
+      reading = g.reading ∙ sym a.reading;
+      line = g.line ∙ sym a.line;
+      heading = g.heading ∙ sym a.heading;
+      mistakes = omega (arith, g.mistakes, f.mistakes, e);
+      out = ap (λ (o : List ℕ). o ++ k) f.out ∙ ap (λ (o : List ℕ). s.out ++ o) g.out ∙ sym a.out;
     }
 
-pub going_end : (d : Draft) (got m c : ℕ) (r : Passed) → Going d got m c → Ends d got m c r → Passes r
+pub follows_more : (d : Draft) (m : ℕ) (text log : List ℕ) (d' : Draft) (m' : ℕ) (next more : List ℕ) (d'' : Draft) (m'' : ℕ) → Follows d m text log d' m'
+    → Follows d' m' next more d'' m'' → Follows d m (text ++ next) (log ++ more) d'' m''
+follows_more d m text log d' m' next more d'' m'' f g =
+    let s : Text = text_taken (text_of d) text in
+    subst (λ (x : Text). Led x m (log ++ more) d'' m'') (sym (taken_append (text_of d) text next))
+    (led_on s (text_taken s next) (text_taken (text_of d') next) m log d' m' more d'' m'' f (follows s d' f.reading f.line f.heading next) g)
+
+pub room_is_small : end_room ≤ 65536
+room_is_small = omega arith
+
+-- a text from its first byte to its end
+pub passes : (d : Draft) (text log : List ℕ) (d' : Draft) (m : ℕ) (rest : List ℕ) (all read sent : ℕ) → Begins d → Follows d 0 text log d' m → Ended d' m rest all
+    → read ≡ length text → sent ≡ length log + length rest → Passes (record { read = read; mistakes = all; sent = sent })
 unfolding day_told
-going_end d got m c r g e =
-    let s : Text = text_taken start g.text in
-    let b : Text = closed (line_ended (text_of d)) in
+passes d text log d' m rest all read sent b f e p q =
+    let s : Text = text_taken start text in
+    let t : Text = closed (line_ended (text_of d')) in
     let x : Text = closed (line_ended s) in
-    let a = follows_end s d g.led.reading g.led.line g.led.heading in
-    let p : length x.mistakes ≡ length s.mistakes + length b.mistakes = ap length a.mistakes ∙ length-append s.mistakes b.mistakes in
-    let q : length x.out ≡ length s.out + length b.out = ap length a.out ∙ length-append s.out b.out in
+    let l : Led s 0 log d' m = subst (λ (y : Text). Led (text_taken y text) 0 log d' m) b.is f in
+    let a = follows_end s d' l.reading l.line l.heading in
+    let u : length x.mistakes ≡ length s.mistakes + length t.mistakes = ap length a.mistakes ∙ length-append s.mistakes t.mistakes in
+    let v : length x.out ≡ length s.out + length t.out = ap length a.out ∙ length-append s.out t.out in
     record {
-      text = g.text;
-      read = e.read ∙ g.read;
-      mistakes = omega (arith, e.mistakes, g.led.mistakes, p);
-      sent = omega (arith, e.sent, g.led.sent, q);
+      text = text;
+      read = p;
+      mistakes = omega (arith, e.mistakes, l.mistakes, u);
+      sent = omega (arith, q, ap length l.out, ap length e.out, v);
     }

@@ -1,220 +1,146 @@
-// A text in words that a reader gives, taken whole: its mistakes are told, and where it is to be written, its day is sent. Bytes are
-// counted on both sides, so that a contract can tell one left out or written twice.
+// A text in words that a reader gives, taken whole: its mistakes are counted and, where it is checked, told; where it is written, its
+// day is sent.
 #![tactic(auto)]
 
-ghost use Rattle.std.specs.Prelude.{true, ◌≡◌, ◌+◌, ◌≤◌, length};
+ghost use Rattle.std.specs.Prelude.{◌≡◌, ◌+◌, ◌≤◌, length, IfOk, ⊤};
 ghost use Rattle.draft.specs.Draft.{faults_told};
-ghost use Rattle.laying.specs.Laying.{line_room};
-ghost use Rattle.draft.specs.Steps.{Ready, end_room};
-ghost use Rattle.scribe.specs.Passing.{Drains, Ends, Passes};
+ghost use Rattle.draft.specs.Steps.{end_room};
+ghost use Rattle.scribe.specs.Passing.{Follows, Ended, follows_none, follows_more, room_is_small, Passes};
 
 use draft::{Draft, Step};
 use heading::Told;
-use sending::Sent;
+use notation::Expected;
+use sending::{Counted, Part, Rest, Sent, Sink, Taker};
+use standard::Failure;
 use std::io::Read;
+use wording::Line;
 
-// So many bytes more: sent, where the day is written.
-fn deliver<P: Print>(to: &P, is_writing: bool, before: u64, bytes: &[u8]) -> Sent
-    ensures { result.good ≡ true → result.count ≡ before + length bytes.now }
-{
-    if is_writing {
-        return sending::put(to, before, bytes);
-    }
-    let n = bytes.len() as u64;
-    if n <= u64::MAX - before {
-        return Sent {
-            good: true,
-            count: before + n,
-        };
-    }
-    Sent {
-        good: false,
-        count: before,
+// What hears of each mistake.
+trait Listener {
+    fn mistake(&self, line: u64, expected: Expected, found: Line);
+}
+
+// It is told on standard error.
+#[derive(Drop)]
+struct Teller<'a, E> {
+    to: &'a E,
+}
+
+impl<'a, E: Eprint> Listener for Teller<'a, E> {
+    fn mistake(&self, line: u64, expected: Expected, found: Line) {
+        telling::tell(self.to, line, expected, found);
     }
 }
 
-// One more.
-fn one_more(before: u64) -> Sent
-    ensures { result.good ≡ true → result.count ≡ before + 1 }
-{
-    if before < u64::MAX {
-        return Sent {
-            good: true,
-            count: before + 1,
-        };
-    }
-    Sent {
-        good: false,
-        count: before,
-    }
-}
-
-// A step's mistake, if it has one, is counted, and told where the text is checked: one that is written was checked before.
-fn note(is_writing: bool, before: u64, s: Step) -> Sent
-    ensures { result.good ≡ true → result.count ≡ before + length (faults_told s.number s.told) }
-{
-    let t = s.told;
-    let l = s.ended;
-    match t {
-        Told::Nothing => Sent {
-            good: true,
-            count: before,
-        },
-        Told::Event(_, _) => Sent {
-            good: true,
-            count: before,
-        },
-        Told::Mistake(x) => {
-            if !is_writing {
-                telling::tell(s.number, x, l);
-            }
-            one_more(before)
-        }
-    }
-}
-
-// What a piece of the text leaves.
+// A text that is written was checked before.
 #[derive(Clone, Copy)]
-struct Drained {
-    pub good: bool,
-    pub draft: Draft,
-    pub mistakes: u64,
-    pub sent: u64,
+struct Silence;
+
+impl Listener for Silence {
+    fn mistake(&self, _line: u64, _expected: Expected, _found: Line) {}
 }
 
-// All of a piece.
-fn drain<P: Print>(
-    to: &P,
-    is_writing: bool,
-    from: Draft,
+// A text under way.
+#[derive(Drop)]
+struct Words<'a, L> {
+    draft: Draft,
     mistakes: u64,
-    sent: u64,
-    text: &[u8],
-    out: &mut [u8],
-) -> Drained
-    requires { Ready from × (line_room ≤ length out.old) }
-    ensures { result.good ≡ true → Drains from mistakes sent text.now result.draft result.mistakes result.sent }
+    listener: &'a L,
+}
+
+// A step's mistake, if it has one, is heard and counted.
+fn note<L: Listener>(listener: &L, before: u64, s: Step) -> Result<u64, Failure<'static>>
+    ensures { IfOk result (λ n. n ≡ before + length (faults_told s.number s.told)) }
 {
-    let e = text.len();
-    let mut d = from;
-    let mut m = mistakes;
-    let mut count = sent;
-    let mut at: usize = 0;
-    while at < e {
-        let s = draft::go_on(d, &text[at..e], out);
-        let w = s.written;
-        let k = deliver(to, is_writing, count, &out[..w]);
-        let n = note(is_writing, m, s);
-        if !k.good {
-            return Drained {
-                good: false,
-                draft: d,
-                mistakes: m,
-                sent: count,
-            };
+    match s.told {
+        Told::Nothing | Told::Event(_, _) => Ok(before),
+        Told::Mistake(x) => {
+            listener.mistake(s.number, x, s.ended);
+            before.checked_add(1).ok_or(Failure::TooMany)
         }
-        if !n.good {
-            return Drained {
-                good: false,
-                draft: d,
-                mistakes: m,
-                sent: count,
-            };
-        }
-        d = s.draft;
-        m = n.count;
-        count = k.count;
-        at += s.read;
-    }
-    Drained {
-        good: true,
-        draft: d,
-        mistakes: m,
-        sent: count,
     }
 }
 
-// Where `good`, the whole text: its bytes, its mistakes, and the bytes of its day.
+impl<'a, L: Listener> Taker for Words<'a, L> {
+    ghost room = { end_room };
+
+    ghost ready = { λ _. ⊤ };
+
+    ghost took = { λ w text log x. Follows w.draft w.mistakes text log x.draft x.mistakes };
+
+    ghost ended = { λ w rest mistakes. Ended w.draft w.mistakes rest mistakes };
+
+    fn go_on(&mut self, text: &[u8], out: &mut [u8]) -> Result<Part, Failure<'static>> {
+        let step = draft::go_on(self.draft, text, out);
+        self.mistakes = note(self.listener, self.mistakes, step)?;
+        self.draft = step.draft;
+        Ok(Part {
+            read: step.read,
+            written: step.written,
+        })
+    }
+
+    fn finish(&mut self, out: &mut [u8]) -> Result<Rest, Failure<'static>> {
+        let last = draft::finish(self.draft, out);
+        Ok(Rest {
+            tally: note(self.listener, self.mistakes, last)?,
+            written: last.written,
+        })
+    }
+
+    ghost laws = { record { none = λ w r. follows_none w.draft w.mistakes; more = λ w t l x u m y. follows_more w.draft w.mistakes t l x.draft x.mistakes u m y.draft y.mistakes } };
+
+    ghost small = { room_is_small };
+}
+
+// A whole text: its bytes, its mistakes, and the bytes of its day.
 #[derive(Clone, Copy)]
 pub struct Passed {
-    pub good: bool,
     pub read: u64,
     pub mistakes: u64,
     pub sent: u64,
 }
 
-// No whole text.
-fn broken() -> Passed
-    ensures { result.good ≡ true → ⊥ }
+// The text that a reader gives, of which messages speak by name.
+fn pass<'a, L: Listener, S: Sink, R: Read>(
+    listener: &L,
+    to: &S,
+    from: &mut R,
+    name: &'a [u8],
+) -> Result<Passed, Failure<'a>>
+    ensures { IfOk result Passes }
 {
-    Passed {
-        good: false,
-        read: 0,
+    let mut words = Words {
+        draft: draft::begin(),
         mistakes: 0,
-        sent: 0,
-    }
+        listener,
+    };
+    let whole = sending::flow(&mut words, to, from, name)?;
+    Ok(Passed {
+        read: whole.read,
+        mistakes: whole.tally,
+        sent: whole.sent,
+    })
 }
 
-// The text's end, behind `read` bytes.
-fn end<P: Print>(
+// A text is checked: its mistakes are told to `to`, and the bytes of its day are counted.
+pub fn check<'a, E: Eprint, R: Read>(
+    to: &E,
+    from: &mut R,
+    name: &'a [u8],
+) -> Result<Passed, Failure<'a>>
+    ensures { IfOk result Passes }
+{
+    pass(&Teller { to }, &Counted, from, name)
+}
+
+// A text is written: its day goes to `to`.
+pub fn write<'a, P: Print, R: Read>(
     to: &P,
-    is_writing: bool,
-    d: Draft,
-    read: u64,
-    mistakes: u64,
-    sent: u64,
-    out: &mut [u8],
-) -> Passed
-    requires { Ready d × (end_room ≤ length out.old) }
-    ensures { result.good ≡ true → Ends d read mistakes sent result }
+    from: &mut R,
+    name: &'a [u8],
+) -> Result<Passed, Failure<'a>>
+    ensures { IfOk result Passes }
 {
-    let s = draft::finish(d, out);
-    let w = s.written;
-    let k = deliver(to, is_writing, sent, &out[..w]);
-    let n = note(is_writing, mistakes, s);
-    if !n.good {
-        return broken();
-    }
-    Passed {
-        good: k.good,
-        read: read,
-        mistakes: n.count,
-        sent: k.count,
-    }
-}
-
-// The text that a reader gives, of which messages speak by name; where it is written, its day goes to `to`.
-pub fn pass<P: Print, R: Read>(to: &P, is_writing: bool, from: &mut R, name: &[u8]) -> Passed
-    ensures { result.good ≡ true → Passes result }
-{
-    let mut buf = io::large_buffer();
-    let mut out = io::large_buffer();
-    let mut d = draft::begin();
-    let mut read: u64 = 0;
-    let mut mistakes: u64 = 0;
-    let mut sent: u64 = 0;
-    loop {
-        let n = match from.read(&mut buf) {
-            Ok(n) => n,
-            Err(e) => {
-                standard::fail(name, &e);
-                return broken();
-            }
-        };
-        if n == 0 {
-            return end(to, is_writing, d, read, mistakes, sent, &mut out);
-        }
-        let more = n as u64;
-        if u64::MAX - read < more {
-            return broken();
-        }
-        let k = drain(to, is_writing, d, mistakes, sent, &buf[..n], &mut out);
-        if !k.good {
-            return broken();
-        }
-        d = k.draft;
-        mistakes = k.mistakes;
-        sent = k.sent;
-        read += more;
-    }
+    pass(&Silence, &Sent { to }, from, name)
 }

@@ -1,6 +1,9 @@
 // The entry point without text, for the benchmark.
 #![tactic(auto)]
 
+use pool::Pool;
+use standard::Output;
+
 fn main() {
-    bench::run(true);
+    bench::run::<Pool, _>(&Output);
 }

@@ -1,122 +1,78 @@
-// A day from a reader to its log on standard output. What is read is taken whole, in as many steps as it needs, and what a
-// step writes goes out before the next. Bytes are counted on both sides, so that a contract can tell one left out or written twice.
+// A day from a reader to its log on standard output.
 #![tactic(auto)]
 
-ghost use Rattle.std.specs.Prelude.{true, ◌≡◌, ◌≤◌, length};
+ghost use Rattle.std.specs.Prelude.{IfOk};
 ghost use Rattle.first_line.specs.Took.{line_room};
-ghost use Rattle.session.specs.Code.{Ready};
-ghost use Rattle.stream.specs.Streams.{Drains, Ends, Plays};
+ghost use Rattle.runs.specs.Code.{Ready, view_in};
+ghost use Rattle.lines.specs.OnSlots.{on_slots};
+ghost use Rattle.replay.specs.Calls.{feed_nil};
+ghost use Rattle.stream.specs.Streams.{Feeds, Ended, feeds_more, room_is_small, Plays};
 
-use sending::put;
-use session::Session;
+use runs::Session;
+use sending::{Part, Rest, Sent, Taker};
+use standard::Failure;
 use std::io::Read;
 
-// What a piece of the text leaves.
-#[derive(Clone, Copy)]
-struct Drained {
-    pub good: bool,
-    pub session: Session,
-    pub sent: u64,
+// A day under way.
+#[derive(Drop)]
+struct Day {
+    session: Session,
 }
 
-// All of a piece.
-fn drain<P: Print>(to: &P, day: Session, sent: u64, text: &[u8], out: &mut [u8]) -> Drained
-    requires { Ready day × (line_room ≤ length out.old) }
-    ensures { result.good ≡ true → Drains day sent text.now result.session result.sent }
-{
-    let e = text.len();
-    let mut s = day;
-    let mut count = sent;
-    let mut at: usize = 0;
-    while at < e {
-        let p = session::go_on(s, &text[at..e], out);
-        s = p.session;
-        let w = p.written;
-        let k = put(to, count, &out[..w]);
-        if !k.good {
-            return Drained {
-                good: false,
-                session: s,
-                sent: count,
-            };
-        }
-        count = k.count;
-        at += p.read;
+impl Taker for Day {
+    ghost room = { line_room };
+
+    ghost ready = { λ d. Ready d.session };
+
+    ghost took = { λ d text log e. Feeds d.session text log e.session };
+
+    ghost ended = { λ d rest used. Ended d.session rest used };
+
+    fn go_on(&mut self, text: &[u8], out: &mut [u8]) -> Result<Part, Failure<'static>> {
+        let part = session::go_on(&mut self.session, text, out);
+        Ok(Part {
+            read: part.read,
+            written: part.written,
+        })
     }
-    Drained {
-        good: true,
-        session: s,
-        sent: count,
+
+    fn finish(&mut self, out: &mut [u8]) -> Result<Rest, Failure<'static>> {
+        let end = session::finish(&mut self.session, out);
+        Ok(Rest {
+            tally: end.used,
+            written: end.written,
+        })
     }
+
+    ghost laws = { record { none = λ d r. feed_nil on_slots (view_in d.session); more = λ d t l e u m f. feeds_more d.session t l e.session u m f.session } };
+
+    ghost small = { room_is_small };
 }
 
-// Where `good`, a whole day: its bytes, the log's, and the frames used.
+// A whole day: its bytes, the log's, and the frames used.
 #[derive(Clone, Copy)]
 pub struct Played {
-    pub good: bool,
     pub used: u64,
     pub read: u64,
     pub sent: u64,
 }
 
-// The text's end, behind `read` bytes.
-fn end<P: Print>(to: &P, day: Session, read: u64, sent: u64, out: &mut [u8]) -> Played
-    requires { Ready day × (line_room ≤ length out.old) }
-    ensures { result.good ≡ true → Ends day read sent out.old out.new result }
-{
-    let k = session::finish(day, out);
-    let w = k.written;
-    let s = put(to, sent, &out[..w]);
-    Played {
-        good: s.good,
-        used: k.used,
-        read: read,
-        sent: s.count,
-    }
-}
-
-// No whole day.
-pub fn broken() -> Played
-    ensures { result.good ≡ true → ⊥ }
-{
-    Played {
-        good: false,
-        used: 0,
-        read: 0,
-        sent: 0,
-    }
-}
-
 // The day that a reader gives, of which messages speak by name; its log goes to `to`.
-pub fn play<P: Print, R: Read>(to: &P, from: &mut R, name: &[u8], budget: u64) -> Played
-    ensures { result.good ≡ true → Plays budget result }
+pub fn play<'a, P: Print, R: Read>(
+    to: &P,
+    from: &mut R,
+    name: &'a [u8],
+    budget: u64,
+) -> Result<Played, Failure<'a>>
+    ensures { IfOk result (Plays budget) }
 {
-    let mut buf = io::large_buffer();
-    let mut out = io::large_buffer();
-    let mut day = session::begin(budget);
-    let mut read: u64 = 0;
-    let mut sent: u64 = 0;
-    loop {
-        let n = match from.read(&mut buf) {
-            Ok(n) => n,
-            Err(e) => {
-                standard::fail(name, &e);
-                return broken();
-            }
-        };
-        if n == 0 {
-            return end(to, day, read, sent, &mut out);
-        }
-        let more = n as u64;
-        if u64::MAX - read < more {
-            return broken();
-        }
-        let d = drain(to, day, sent, &buf[..n], &mut out);
-        if !d.good {
-            return broken();
-        }
-        day = d.session;
-        sent = d.sent;
-        read += more;
-    }
+    let mut day = Day {
+        session: session::begin(budget),
+    };
+    let whole = sending::flow(&mut day, &Sent { to }, from, name)?;
+    Ok(Played {
+        used: whole.tally,
+        read: whole.read,
+        sent: whole.sent,
+    })
 }

@@ -9,9 +9,8 @@ ghost use Rattle.std.specs.Prelude.{◌≤◌, length};
 ghost use Rattle.io.specs.Counts.{IsPrefixLen};
 
 use definition::{DAY_LINE, FRAME, Frame, Options, Refusal};
-use reading::Given;
-use standard::{STDIN_FILENO, STDOUT_FILENO};
-use writing::Written;
+use standard::{Output, STDIN_FILENO};
+use std::fmt;
 
 // The most lines of a day. The bytes of their frames and their text are on the stack, which holds 8 MB.
 const LINES: usize = 100001;
@@ -25,60 +24,51 @@ const FEW_LINES: usize = 101;
 
 // ── What is said ──
 
-fn say(words: &[u8]) {
-    io::write_all(STDOUT_FILENO, words);
-}
-
-fn number(x: u64) {
-    io::print_decimal(STDOUT_FILENO, x);
-}
-
 #[derive(Clone, Copy)]
+enum Answer {
+    Short,
+    Malformed,
+    Written,
+}
+
+#[derive(Clone, Copy, Default)]
 struct Seen {
     short: u64,
     malformed: u64,
     written: u64,
 }
 
-fn none() -> Seen {
-    Seen {
-        short: 0,
-        malformed: 0,
-        written: 0,
+impl Seen {
+    fn count(&mut self, answer: Answer) {
+        match answer {
+            Answer::Short => self.short = self.short.wrapping_add(1),
+            Answer::Malformed => self.malformed = self.malformed.wrapping_add(1),
+            Answer::Written => self.written = self.written.wrapping_add(1),
+        }
     }
 }
 
-fn tell(what: &[u8], c: Seen) {
-    say(what);
-    say(b": ");
-    number(c.short);
-    say(b" refused as 1, ");
-    number(c.malformed);
-    say(b" refused as 2, ");
-    number(c.written);
-    say(b" written\n");
+impl fmt::Display for Seen {
+    fn fmt<W: fmt::Write>(&self, f: &mut fmt::Formatter<W>) -> fmt::Result {
+        write!(f, "{} refused as 1, ", self.short)?;
+        write!(f, "{} refused as 2, ", self.malformed)?;
+        write!(f, "{} written", self.written)
+    }
 }
 
 // ── What is read ──
 
 // An event's bytes are made anew from what was read of them.
-fn bytes_in(line: &[u8]) -> [u8; FRAME] {
+fn bytes_in(line: &[u8; DAY_LINE]) -> [u8; FRAME] {
     match reading::line_frame(line) {
         Frame::Good(e, time) => framing::frame_bytes(e, time),
         Frame::Bad => {
-            let l = digits::line_bytes(line);
-            l.bytes
+            if line[2 * FRAME] == b'\n' {
+                digits::raw_bytes(line)
+            } else {
+                [0; FRAME]
+            }
         }
-    }
-}
-
-fn put(bytes: [u8; FRAME], to: &mut [u8])
-    requires { 24 ≤ length to.old }
-{
-    let mut i: usize = 0;
-    while i < FRAME {
-        to[i] = bytes[i];
-        i += 1;
     }
 }
 
@@ -86,16 +76,15 @@ fn put(bytes: [u8; FRAME], to: &mut [u8])
 fn read_day(day: &mut [u8]) -> usize
     ensures { IsPrefixLen result day.new }
 {
-    let mut n: usize = 0;
-    while FRAME <= day.len() - n {
+    let most = day.len() / FRAME;
+    for i in 0..most {
         let mut line = [0u8; DAY_LINE];
         if io::read_full(STDIN_FILENO, &mut line) < DAY_LINE {
-            return n;
+            return i * FRAME;
         }
-        put(bytes_in(&line), &mut day[n..]);
-        n += FRAME;
+        day[i * FRAME..(i + 1) * FRAME].copy_from_slice(&bytes_in(&line));
     }
-    n
+    most * FRAME
 }
 
 // ── What is lent ──
@@ -106,189 +95,68 @@ fn pattern(i: usize) -> u8 {
 }
 
 fn fill(out: &mut [u8]) {
-    let mut i: usize = 0;
-    while i < out.len() {
-        out[i] = pattern(i);
-        i += 1;
+    for (i, b) in out.iter_mut().enumerate() {
+        *b = pattern(i);
     }
 }
 
 fn is_filled(out: &[u8], from: usize) -> bool {
-    let mut i = from;
-    while i < out.len() {
-        if out[i] != pattern(i) {
-            return false;
-        }
-        i += 1;
-    }
-    true
+    out.iter()
+        .enumerate()
+        .skip(from)
+        .all(|(i, b)| *b == pattern(i))
 }
 
 // Whether the lines at the front have these bytes.
 fn is_text(out: &[u8], bytes: &[u8]) -> bool {
-    let mut at: usize = 0;
-    let mut from: usize = 0;
-    while FRAME <= bytes.len() - from {
-        if out.len() - at < DAY_LINE {
-            return false;
-        }
-        let l = digits::line_bytes(&out[at..at + DAY_LINE]);
-        let b = l.bytes;
-        if !l.good {
-            return false;
-        }
-        if !check::same(&b, &bytes[from..from + FRAME]) {
-            return false;
-        }
-        at += DAY_LINE;
-        from += FRAME;
-    }
-    true
+    bytes.len() / FRAME <= out.len() / DAY_LINE
+        && bytes
+            .chunks_exact(FRAME)
+            .zip(out.chunks_exact(DAY_LINE))
+            .all(|(frame, line)| digits::line_bytes(line).is_some_and(|b| b.as_slice() == frame))
 }
 
 // ── What is answered ──
 
-#[derive(Clone, Copy)]
-enum Answer {
-    Short,
-    Malformed,
-    Written,
-    Wrong,
-}
+// A writer as it is called with the room that is lent.
+type Written = Result<usize, Refusal>;
 
-fn refused(r: Refusal, is_short: bool, out: &[u8]) -> Answer {
-    if !is_filled(out, 0) {
-        return Answer::Wrong;
-    }
-    match refusals::refusal_number(r) {
-        1 => if is_short {
-            Answer::Short
-        } else {
-            Answer::Wrong
-        },
-        2 => if is_short {
-            Answer::Wrong
-        } else {
-            Answer::Malformed
-        },
-        _ => Answer::Wrong,
-    }
-}
-
-fn wrote(bytes: &[u8], out: &[u8], n: usize) -> Answer {
-    if !is_text(out, bytes) {
-        return Answer::Wrong;
-    }
-    if !is_filled(out, n) {
-        return Answer::Wrong;
-    }
-    Answer::Written
-}
-
-// The whole text has so many bytes, and there was room for so many.
-fn judged(w: Written, whole: usize, room: usize, bytes: &[u8], out: &[u8]) -> Answer {
-    let is_short = room < whole;
+// The whole text has so many bytes, and there was room for so many. None: the answer is wrong.
+fn judged(w: Written, whole: usize, room: usize, bytes: &[u8], out: &[u8]) -> Option<Answer> {
     match w {
-        Written::Refused(r) => refused(r, is_short, out),
-        Written::Bytes(n) => {
-            if is_short {
-                return Answer::Wrong;
-            }
-            if n != whole {
-                return Answer::Wrong;
-            }
-            wrote(bytes, out, n)
-        }
+        Err(Refusal::OutputShort) if room < whole && is_filled(out, 0) => Some(Answer::Short),
+        Err(Refusal::Malformed) if whole <= room && is_filled(out, 0) => Some(Answer::Malformed),
+        Ok(n) if whole <= room && n == whole && is_text(out, bytes) && is_filled(out, n) => Some(
+            Answer::Written,
+        ),
+        _ => None,
     }
-}
-
-fn counted(c: Seen, a: Answer, room: usize) -> Seen {
-    let mut d = c;
-    match a {
-        Answer::Short => d.short = std::num::wrapping_add_u64(c.short, 1),
-        Answer::Malformed => d.malformed = std::num::wrapping_add_u64(c.malformed, 1),
-        Answer::Written => d.written = std::num::wrapping_add_u64(c.written, 1),
-        Answer::Wrong => {
-            say(b"WRONG with room for ");
-            number(room as u64);
-            say(b"\n");
-        }
-    }
-    d
 }
 
 // ── Calls ──
 
-#[derive(Clone, Copy)]
-enum Writer {
-    Options,
-    Event,
-    Day,
-}
-
-fn call(which: Writer, o: Options, frames: &[u8], out: &mut [u8]) -> Written {
-    match which {
-        Writer::Options => writing::write_options(o, out),
-        Writer::Event => writing::write_event(frames, out),
-        Writer::Day => writing::write_day(o, frames, out),
-    }
-}
-
-// A call with each room from the least on; the last byte is never lent.
-fn tried(
-    c: Seen,
-    which: Writer,
-    o: Options,
-    frames: &[u8],
+// Calls with each room from the least on; the last byte is never lent.
+fn try_rooms<P: Print, W: Fn(&mut [u8]) -> Written>(
+    to: &P,
+    seen: &mut Seen,
+    write: W,
     bytes: &[u8],
     whole: usize,
     least: usize,
     out: &mut [u8],
-) -> Seen {
-    let mut d = c;
-    let mut room = least;
-    while room < out.len() {
-        fill(out);
-        let w = call(which, o, frames, &mut out[..room]);
-        let a = judged(w, whole, room, bytes, out);
-        d = counted(d, a, room);
-        room += 1;
-    }
-    d
-}
-
-fn each_event(o: Options, frames: &[u8], least: usize, out: &mut [u8]) -> Seen {
-    let mut c = none();
-    let mut at: usize = 0;
-    while FRAME <= frames.len() - at {
-        let end = at + FRAME;
-        c = tried(
-            c,
-            Writer::Event,
-            o,
-            &frames[at..end],
-            &frames[at..end],
-            DAY_LINE,
-            least,
-            out,
-        );
-        at = end;
-    }
-    c
-}
-
-// The day without the last bytes of its last event.
-fn each_cut(o: Options, day: &[u8], whole: usize, least: usize, out: &mut [u8]) -> Seen
-    requires { 48 ≤ length day.now }
+)
+    requires { W.IsAlwaysCallable write }
 {
-    let mut c = none();
-    let mut cut: usize = 1;
-    while cut < FRAME {
-        let end = day.len() - cut;
-        c = tried(c, Writer::Day, o, &day[FRAME..end], day, whole, least, out);
-        cut += 1;
+    for room in least..out.len() {
+        fill(out);
+        let w = write(&mut out[..room]);
+        match judged(w, whole, room, bytes, out) {
+            Some(answer) => seen.count(answer),
+            None => {
+                let _ = println!(to; "WRONG with room for {room}");
+            }
+        }
     }
-    c
 }
 
 // ── The day ──
@@ -297,119 +165,134 @@ fn least_room(day: &[u8], whole: usize) -> usize
     requires { 1 ≤ whole }
 {
     if FEW_LINES * FRAME < day.len() {
-        return whole - 1;
+        whole - 1
+    } else {
+        0
     }
-    0
 }
 
-fn try_options(o: Options, day: &[u8], out: &mut [u8])
+fn try_options<P: Print>(to: &P, o: Options, day: &[u8], out: &mut [u8])
     requires { (24 ≤ length day.now) × (4900099 ≤ length out.old) }
 {
-    let end = 2 * DAY_LINE + 1;
-    tell(
-        b"options",
-        tried(
-            none(),
-            Writer::Options,
-            o,
-            b"",
-            &day[0..FRAME],
+    let mut seen = Seen::default();
+    try_rooms(
+        to,
+        &mut seen,
+        |room: &mut [u8]| writing::write_options(o, room),
+        &day[..FRAME],
+        DAY_LINE,
+        0,
+        &mut out[..2 * DAY_LINE + 1],
+    );
+    let _ = println!(to; "options: {seen}");
+}
+
+fn try_events<P: Print>(to: &P, day: &[u8], out: &mut [u8])
+    requires { (24 ≤ length day.now) × (4900099 ≤ length out.old) }
+{
+    let mut seen = Seen::default();
+    let out = &mut out[..2 * DAY_LINE + 1];
+    for frame in day[FRAME..].chunks_exact(FRAME) {
+        try_rooms(
+            to,
+            &mut seen,
+            |room: &mut [u8]| writing::write_event(frame, room),
+            frame,
             DAY_LINE,
-            0,
-            &mut out[0..end],
-        ),
-    );
+            least_room(day, DAY_LINE),
+            out,
+        );
+    }
+    let _ = println!(to; "events: {seen}");
 }
 
-fn try_events(o: Options, day: &[u8], out: &mut [u8])
-    requires { (24 ≤ length day.now) × (4900099 ≤ length out.old) }
-{
-    let least = least_room(day, DAY_LINE);
-    let end = 2 * DAY_LINE + 1;
-    tell(
-        b"events",
-        each_event(o, &day[FRAME..], least, &mut out[0..end]),
-    );
-}
-
-fn try_day(o: Options, day: &[u8], whole: usize, out: &mut [u8])
+fn try_day<P: Print>(to: &P, o: Options, day: &[u8], whole: usize, out: &mut [u8])
     requires { (24 ≤ length day.now) × (1 ≤ whole) × (whole ≤ 4900049) × (4900099 ≤ length out.old) }
 {
-    let least = least_room(day, whole);
-    let end = whole + DAY_LINE + 1;
-    tell(
-        b"day",
-        tried(
-            none(),
-            Writer::Day,
-            o,
-            &day[FRAME..],
-            day,
-            whole,
-            least,
-            &mut out[0..end],
-        ),
+    let mut seen = Seen::default();
+    try_rooms(
+        to,
+        &mut seen,
+        |room: &mut [u8]| writing::write_day(o, &day[FRAME..], room),
+        day,
+        whole,
+        least_room(day, whole),
+        &mut out[..whole + DAY_LINE + 1],
     );
+    let _ = println!(to; "day: {seen}");
 }
 
-fn try_cuts(o: Options, day: &[u8], whole: usize, out: &mut [u8])
+// The day without the last bytes of its last event.
+fn try_cuts<P: Print>(to: &P, o: Options, day: &[u8], whole: usize, out: &mut [u8])
     requires { (1 ≤ whole) × (whole ≤ 4900049) × (4900099 ≤ length out.old) }
 {
     if day.len() < 2 * FRAME {
         return;
     }
-    let end = whole + 1;
-    tell(b"cut", each_cut(o, day, whole, whole - 1, &mut out[0..end]));
+    let mut seen = Seen::default();
+    for cut in 1..FRAME {
+        let events = &day[FRAME..day.len() - cut];
+        try_rooms(
+            to,
+            &mut seen,
+            |room: &mut [u8]| writing::write_day(o, events, room),
+            day,
+            whole,
+            whole - 1,
+            &mut out[..whole + 1],
+        );
+    }
+    let _ = println!(to; "cut: {seen}");
 }
 
 // The day as it is written where there is room.
-fn show(o: Options, day: &[u8], out: &mut [u8])
+fn show<P: Print>(to: &P, o: Options, day: &[u8], out: &mut [u8])
     requires { 24 ≤ length day.now }
 {
-    if let Written::Bytes(n) = writing::write_day(o, &day[FRAME..], out) {
-        if n <= out.len() {
-            say(&out[0..n]);
+    if let Ok(n) = writing::write_day(o, &day[FRAME..], out) {
+        if let Some(text) = out.get(..n) {
+            let _ = to.write_all(text);
         }
     }
 }
 
-fn run(o: Options, day: &[u8], out: &mut [u8])
+fn run<P: Print>(to: &P, o: Options, day: &[u8], out: &mut [u8])
     requires { (24 ≤ length day.now) × (length day.now ≤ 2400024) × (4900099 ≤ length out.old) }
 {
     let whole = day.len() / FRAME * DAY_LINE;
-    try_options(o, day, out);
-    try_events(o, day, out);
-    try_day(o, day, whole, out);
-    try_cuts(o, day, whole, out);
-    show(o, day, out);
+    try_options(to, o, day, out);
+    try_events(to, day, out);
+    try_day(to, o, day, whole, out);
+    try_cuts(to, o, day, whole, out);
+    show(to, o, day, out);
 }
 
 // Both have the lengths of `main`; a lent array does not tell its own, so they are looked at again.
-fn start(day: &mut [u8], out: &mut [u8]) {
+fn start<P: Print>(to: &P, day: &mut [u8], out: &mut [u8]) {
     let n = read_day(day);
-    if n < FRAME {
-        say(b"no options\n");
+    if DAY < n || out.len() < ROOM {
         return;
     }
-    if DAY < n {
-        return;
-    }
-    if out.len() < ROOM {
-        return;
-    }
-    match reading::options_of(&day[0..FRAME]) {
-        Given::Malformed => say(b"no options\n"),
-        Given::Options(o) => run(o, &day[0..n], out),
+    let options = if n < FRAME {
+        None
+    } else {
+        reading::options_of(&day[..FRAME])
+    };
+    match options {
+        Some(o) => run(to, o, &day[..n], out),
+        None => {
+            let _ = println!(to; "no options");
+        }
     }
 }
 
 // Apart from `main`, so that no proof has to look into millions of zeros.
-fn lend(day: &mut [u8; DAY], out: &mut [u8; ROOM]) {
-    start(day, out);
+fn lend<P: Print>(to: &P, day: &mut [u8; DAY], out: &mut [u8; ROOM]) {
+    start(to, day, out);
 }
 
 fn main() {
     let mut day = [0u8; DAY];
     let mut out = [0u8; ROOM];
-    lend(&mut day, &mut out);
+    lend(&Output, &mut day, &mut out);
 }

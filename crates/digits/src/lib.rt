@@ -5,36 +5,36 @@ ghost use Rattle.std.specs.Prelude.{◌≡◌, ◌≤◌, List, ℕ, Some, map, 
 ghost use Rattle.definition.specs.Bytes.{unhex, bytes_of};
 ghost use Rattle.digits.specs.Decode.{number, digits?, pairs_of};
 
-// The number of a digit, and 16 for what is none. No return, and an unconditional store in the loop below: so 16 digits are read at
-// once.
+// The number of a digit, and 16 for what is none. Two tests that do not depend on each other and an unconditional store in the loop
+// below: so 16 digits are read at once. A `match` takes a quarter more, and `contains` too.
 #[tactic(auto, using(definition::specs::Booleans::choices), unfolding(crate::specs::Decode::number, definition::specs::Bytes::value_of))]
 fn number_of(c: u8) -> u8
     ensures { result ≡ number c }
 {
-    match c {
-        b'0'..=b'9' => c - b'0',
-        b'a'..=b'f' => c - b'a' + 10,
-        _ => 16,
+    let mut v = 16;
+    if b'0' <= c && c <= b'9' {
+        v = c - b'0';
     }
+    if b'a' <= c && c <= b'f' {
+        v = c - b'a' + 10;
+    }
+    v
 }
 
-// The numbers of 48 digits.
-fn numbers_of(s: &[u8]) -> [u8; 48]
+// The numbers of 48 digits, and whether all are a digit's. One loop, which the compiler does at once for 16: a fold over the numbers
+// it does one by one, and takes twice the time.
+fn numbers_of(s: &[u8]) -> ([u8; 48], bool)
     requires { 48 ≤ length s.now }
-    ensures { result ≡ map number (take 48 s.now) }
+    ensures numbers { result.0 ≡ map number (take 48 s.now) }
+    ensures digits { result.1 ≡ digits? (map number (take 48 s.now)) }
 {
     let mut numbers = [0u8; 48];
+    let mut are_digits = true;
     for (i, n) in numbers.iter_mut().enumerate() {
         *n = number_of(s[i]);
+        are_digits &= *n < 16;
     }
-    numbers
-}
-
-// Whether all are a digit's. All are looked at, so that it is done at once for 16.
-fn are_digits(numbers: &[u8; 48]) -> bool
-    ensures { result ≡ digits? numbers.now }
-{
-    numbers.iter().fold(true, |good, n| good & (*n < 16))
+    (numbers, are_digits)
 }
 
 // Two numbers make a byte. Numbers that are no digit's make some byte too.
@@ -54,8 +54,8 @@ pub fn decode(s: &[u8]) -> Option<[u8; 24]>
     requires { 48 ≤ length s.now }
     ensures { result ≡ unhex (take 48 s.now) }
 {
-    let numbers = numbers_of(s);
-    if are_digits(&numbers) {
+    let (numbers, are_digits) = numbers_of(s);
+    if are_digits {
         Some(paired(&numbers))
     } else {
         None
@@ -68,7 +68,7 @@ pub fn raw_bytes(s: &[u8]) -> [u8; 24]
     ensures pairs { result ≡ pairs_of (map number (take 48 s.now)) }
     ensures of_digits { (bs : List ℕ) → unhex (take 48 s.now) ≡ Some bs → result ≡ bs }
 {
-    paired(&numbers_of(s))
+    paired(&numbers_of(s).0)
 }
 
 // The bytes of a line of 48 digits and a newline.

@@ -100,11 +100,9 @@ fn fill(out: &mut [u8]) {
     }
 }
 
+// All are looked at, so that it is done at once for 16.
 fn is_filled(out: &[u8], from: usize) -> bool {
-    out.iter()
-        .enumerate()
-        .skip(from)
-        .all(|(i, b)| *b == pattern(i))
+    (from..out.len()).fold(true, |ok, i| ok & (out[i] == pattern(i)))
 }
 
 // Whether the lines at the front have these bytes.

@@ -1,6 +1,6 @@
 -- One turn of a loop that prints pieces of w bytes each, over variables.
 use Rattle.std.specs.Prelude.{◌≡◌, List, ◌++◌, ℕ, ◌+◌, ◌*◌, ◌-◌, ◌≤◌, ◌<◌, length, take, drop}
-use Rattle.std.proofs.Common.{sym, ap, ◌∙◌, mul-zero, mul_comm, mul-suc, mul-le-mul_left, add-one, arith, length-take, length-drop}
+use Rattle.std.proofs.Common.{sym, ap, subst, ◌∙◌, mul-zero, mul_comm, mul-suc, mul-le-mul_left, add-one, arith, length-take, length-drop}
 use Rattle.definition.specs.Bytes.{line_of}
 use Rattle.big_endian.specs.Laws.{tail_more}
 use Rattle.printing.specs.Printed.{printed_by, printed_more, length_printed}
@@ -38,10 +38,15 @@ piece_low w n i h =
     let g : i + 1 ≤ n = omega arith in
     omega (arith, one_more w i, mul-le-mul_left w g)
 
-pub printing_more : (w n : ℕ) (s o₀ o y : List ℕ) (i k : ℕ) → i < n → w * n ≤ length s → k ≡ w → Printing w s o₀ o i
-    → y ≡ line_of (take k (drop (i * w) s)) ++ drop (2 * length (take k (drop (i * w) s)) + 1) (take (length o - i * (2 * w + 1)) (drop (i * (2 * w + 1)) o))
-    → Printing w s o₀ (take (i * (2 * w + 1)) o ++ (y ++ drop (length o - i * (2 * w + 1)) (drop (i * (2 * w + 1)) o))) (i + 1)
-printing_more w n s o₀ o y i k h a z e q = line_laid w s o₀ o y i k (omega (arith, one_more w i, piece_low w n i h)) z e q
+-- m is how far the lines stand apart
+pub printing_more : (w n : ℕ) (s o₀ o y : List ℕ) (i k m : ℕ) → i < n → w * n ≤ length s → k ≡ w → m ≡ 2 * w + 1 → Printing w s o₀ o i
+    → y ≡ line_of (take k (drop (i * w) s)) ++ drop (2 * length (take k (drop (i * w) s)) + 1) (take (length o - i * m) (drop (i * m) o))
+    → Printing w s o₀ (take (i * m) o ++ (y ++ drop (length o - i * m) (drop (i * m) o))) (i + 1)
+printing_more w n s o₀ o y i k m h a z f e q =
+    subst
+    (λ (x : ℕ). y ≡ line_of (take k (drop (i * w) s)) ++ drop (2 * length (take k (drop (i * w) s)) + 1) (take (length o - i * x) (drop (i * x) o))
+    → Printing w s o₀ (take (i * x) o ++ (y ++ drop (length o - i * x) (drop (i * x) o))) (i + 1)) (sym f)
+    (line_laid w s o₀ o y i k (omega (arith, one_more w i, piece_low w n i h)) z e) q
 
 pub printing_start : (w : ℕ) (s o : List ℕ) → Printing w s o o 0
 unfolding printed_by

@@ -32,6 +32,7 @@ fn with_digit(number: u64, c: u8) -> Result<u64, NumberError>
 }
 
 // A word in decimal, where it is a number that fits.
+#[tactic(auto, using(crate::specs::Laws::too_large))]
 pub fn number_of(word: &[u8]) -> Result<u64, NumberError>
     ensures { result ≡ number_of (decimal word.now) }
 {

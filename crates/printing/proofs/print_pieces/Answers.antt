@@ -10,5 +10,5 @@ pub loop-i-preserved : goal.loop-i-preserved
 loop-i-preserved g c =
     let w = g.row.W in
     let i = c.loop-i.i in
-    printing_more w c.args.n c.args.s.now c.args.o.now c.loop-i.o c.print_line.new.o i ((i + 1) * w - i * w)
-    c.loop-i-test.true c.requires.0 (omega (arith, one_more w i, one_more w i)) c.loop-i.invariant c.print_line.ensures
+    printing_more w c.args.n c.args.s.now c.args.o.now c.loop-i.o c.print_line.new.o i ((i + 1) * w - i * w) _
+    c.loop-i-test.true c.requires.0 (omega (arith, one_more w i, one_more w i)) (omega arith) c.loop-i.invariant c.print_line.ensures

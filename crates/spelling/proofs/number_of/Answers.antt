@@ -1,5 +1,4 @@
-use Rattle.std.proofs.lemmas.Result.{err_from_is_err_and}
-use Rattle.spelling.specs.Laws.{no_word, other_word, digit_more, too_large, a_number}
+use Rattle.spelling.specs.Laws.{no_word, other_word, digit_more, a_number}
 use Rattle.spelling.proofs.number_of.Goals.{then-is_empty-via-then-is_empty, then-is_empty-via-else-is_empty+then-not-only_digits}
 use Rattle.spelling.proofs.number_of.Goals as goal
 
@@ -9,12 +8,6 @@ returns-then-is_empty c =
       | then-is_empty-via-then-is_empty w ↦ no_word c.args.word.now (w.if-is_empty.ensures)
       | then-is_empty-via-else-is_empty+then-not-only_digits w ↦ other_word c.args.word.now (w.if-is_empty.ensures) (w.if-not-only_digits.ensures)
     ]
-
-pub returns-in_err-number : goal.returns-in_err-number
-returns-in_err-number c =
-    let p = err_from_is_err_and c.from_residual.result c.from_residual.ensures.1 in
-    rw (p.1, p.2, c.in_err-number.ensures.0)
-    (too_large c.args.word.now c.if-not-only_digits.ensures c.loop-c.c-index c.loop-c-test.true c.loop-c.number c.loop-c.invariant.1 c.in_err-number.ensures.1)
 
 pub loop-c-preserved : goal.loop-c-preserved
 loop-c-preserved c =

@@ -23,7 +23,7 @@ pub fn replay_day(budget: u64, text: &[u8], out: &mut [u8]) -> Day
     let p = session::go_on(&mut s, text, out);
     let n = p.written;
     if p.read == text.len() && ROOM_LINES <= out.len() - n {
-        let k = session::finish(&mut s, &mut out[n..]);
+        let k = session::finish(s, &mut out[n..]);
         return Day {
             whole: true,
             used: k.used,

@@ -1,7 +1,7 @@
 // A run: a day's text in pieces of any cut, as far as there is room for what is said.
 #![tactic(auto)]
 
-ghost use Rattle.std.specs.Prelude.{◌≤◌, length};
+ghost use Rattle.std.specs.Prelude.{◌≡◌, ◌≤◌, length};
 ghost use Rattle.first_line.specs.Took.{line_room};
 ghost use Rattle.first_line.specs.Code.{play_in, Lined};
 ghost use Rattle.lines.specs.OnSlots.{on_slots};
@@ -51,10 +51,12 @@ pub fn replay_some(session: &mut Session, text: &[u8], out: &mut [u8]) -> Part
     }
 }
 
-// After the last byte: what is held is a line, and an empty text counts as a bad first one. The answer is how much of the output was written.
+// After the last byte: what is held is a line, and stays; an empty text counts as a bad first one. The answer is how much of the
+// output was written.
 pub fn finish(session: &mut Session, out: &mut [u8]) -> usize
     requires { Ready session.old × (line_room ≤ length out.old) }
-    ensures { Lined (finish on_slots (play_in session.old.replayer) session.old.held) out.old out.new (play_in session.new.replayer) result }
+    ensures lined { Lined (finish on_slots (play_in session.old.replayer) session.old.held) out.old out.new (play_in session.new.replayer) result }
+    ensures held { session.new.held ≡ session.old.held }
 {
     if session.held.is_empty() {
         return lines::take_end(&mut session.replayer, out);

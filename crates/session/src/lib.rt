@@ -38,13 +38,14 @@ pub struct End {
 }
 
 // After the last byte.
-pub fn finish(session: &mut Session, out: &mut [u8]) -> End
-    requires { Ready session.old × (line_room ≤ length out.old) }
-    ensures { Finishes (finish on_slots (view_in session.old).state (view_in session.old).held) out.old out.new result.used result.written }
+pub fn finish(session: Session, out: &mut [u8]) -> End
+    requires { Ready session × (line_room ≤ length out.old) }
+    ensures { Finishes (finish on_slots (view_in session).state (view_in session).held) out.old out.new result.used result.written }
 {
-    let written = runs::finish(session, out);
+    let mut last = session;
+    let written = runs::finish(&mut last, out);
     End {
-        used: session.replayer.pace.used,
+        used: last.replayer.pace.used,
         written,
     }
 }

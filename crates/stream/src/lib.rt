@@ -37,7 +37,7 @@ impl Taker for Day {
     }
 
     fn finish(&mut self, out: &mut [u8]) -> Result<Rest, Failure<'static>> {
-        let end = session::finish(&mut self.session, out);
+        let end = session::finish(self.session, out);
         Ok(Rest {
             tally: end.used,
             written: end.written,

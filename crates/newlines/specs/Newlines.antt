@@ -88,7 +88,7 @@ len_clean (suc n) (a ∷ l) h c e = go (a =? newline) refl c (λ k. len_clean n 
     go true q k ih = absurd (false≢true k)
     go false q k ih = omega (arith, ih k)
 
-clean_more : (l : List ℕ) (i : ℕ) → i < length l → clean (take (i + 1) l) ≡ (when get_or l i 0 =? newline then false else clean (take i l))
+pub clean_more : (l : List ℕ) (i : ℕ) → i < length l → clean (take (i + 1) l) ≡ (when get_or l i 0 =? newline then false else clean (take i l))
 unfolding clean when◌then◌else◌
 clean_more [] i h = absurd (omega arith)
 clean_more (a ∷ l) zero h = refl

@@ -61,6 +61,9 @@ module _ (b : List ℕ) (n : ℕ) (p : List ℕ) (h : Holds b n) (b' : List ℕ)
       ∙ ap (λ (x : List ℕ). take n b ++ x) (take_min p (held_most - n))
       ∙ sym (ap (λ (i : ℕ). take i (take n b ++ p)) z ∙ take-append-add (take n b) p (held_most - n))
 
+pub holds_none : Holds (replicate held_most 0) 0
+holds_none = record { few = omega arith; long = refl; blank = refl }
+
 -- ── A piece ────────────────────────────────────────────────────────────────────────────────────────────────────────────────
 
 module _ (v : View Play) (p before : List ℕ) where

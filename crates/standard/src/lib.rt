@@ -2,32 +2,42 @@
 #![tactic(auto)]
 
 use std::env::{Env, FillError};
-use std::fmt::Display;
+use std::fmt::{self, Display, Formatter};
 use std::io::{Cursor, Error, ErrorKind, Write};
 
 pub const STDIN_FILENO: i32 = 0;
 
-const STDOUT_FILENO: i32 = 1;
+pub const STDOUT_FILENO: i32 = 1;
+
+pub const STDERR_FILENO: i32 = 2;
 
 // The system's numbers for a name that is too long, and for an argument that isn't one.
 const ENAMETOOLONG: i32 = 36;
 
 const EINVAL: i32 = 22;
 
-// The most bytes of a value's text that are printed.
+// The most bytes of an error's text that are told.
 const MOST_TEXT: usize = 512;
 
-// Standard output of a program that is handed no runtime: write is then all that it reaches of the system (docs/TRUST.md).
-#[derive(Clone, Copy)]
-pub struct Output;
+// ── Streams ──
 
-impl Print for Output {
+// Of a program that is handed no runtime, by the descriptor: write is then all that it reaches of the system (docs/TRUST.md). A text
+// goes out piece by piece, so that none is too long.
+#[derive(Clone, Copy)]
+struct Stream(i32);
+
+impl fmt::Write for Stream {
+    fn write_str(&mut self, text: &str) -> fmt::Result {
+        self.write_all(text.as_bytes()).map_err(|_| fmt::Error)
+    }
+}
+
+impl Print for Stream {
     fn print<D: Display + Drop>(&self, value: D) -> std::io::Result<()> {
-        let mut said = [0u8; MOST_TEXT];
-        let mut text = Cursor::new(&mut said[..]);
-        write!(text, "{value}")?;
-        let n = (text.position() as usize).min(MOST_TEXT);
-        self.write_all(&said[..n])
+        match Formatter::new(*self).write(&value) {
+            Ok(()) => Ok(()),
+            Err(fmt::Error) => Err(Error::from(ErrorKind::WriteZero)),
+        }
     }
 
     fn println<D: Display + Drop>(&self, value: D) -> std::io::Result<()> {
@@ -36,13 +46,61 @@ impl Print for Output {
     }
 
     fn write_all(&self, bytes: &[u8]) -> std::io::Result<()> {
-        if io::write_all(STDOUT_FILENO, bytes) {
+        if io::write_all(self.0, bytes) {
             Ok(())
         } else {
             Err(Error::from(ErrorKind::WriteZero))
         }
     }
 }
+
+// Standard output of such a program.
+#[derive(Clone, Copy)]
+pub struct Output;
+
+impl Print for Output {
+    fn print<D: Display + Drop>(&self, value: D) -> std::io::Result<()> {
+        Stream(STDOUT_FILENO).print(value)
+    }
+
+    fn println<D: Display + Drop>(&self, value: D) -> std::io::Result<()> {
+        Stream(STDOUT_FILENO).println(value)
+    }
+
+    fn write_all(&self, bytes: &[u8]) -> std::io::Result<()> {
+        Stream(STDOUT_FILENO).write_all(bytes)
+    }
+}
+
+// Standard error of such a program.
+#[derive(Clone, Copy)]
+pub struct ErrorOutput;
+
+impl Print for ErrorOutput {
+    fn print<D: Display + Drop>(&self, value: D) -> std::io::Result<()> {
+        Stream(STDERR_FILENO).print(value)
+    }
+
+    fn println<D: Display + Drop>(&self, value: D) -> std::io::Result<()> {
+        Stream(STDERR_FILENO).println(value)
+    }
+
+    fn write_all(&self, bytes: &[u8]) -> std::io::Result<()> {
+        Stream(STDERR_FILENO).write_all(bytes)
+    }
+}
+
+impl Eprint for ErrorOutput {
+    fn eprint<D: Display + Drop>(&self, value: D) -> std::io::Result<()> {
+        self.print(value)
+    }
+
+    fn eprintln<D: Display + Drop>(&self, value: D) -> std::io::Result<()> {
+        self.println(value)
+    }
+}
+
+// ── Why a program ends ──
 
 // Why a program ends before it is done.
 #[derive(Clone, Copy)]

@@ -14,12 +14,24 @@ use Rattle.heading.specs.declared.Told.TheVariants as tells
 
 -- ── The heading ────────────────────────────────────────────────────────────────────────────────────────────────────────────
 
-abbrev pub blank : Heading
-blank = record { maximum = None; minimum = None; connecting = None; idle = None; is_begun = false }
-
 -- an option that is not given is 0, which a pool takes for its default
+abbrev pub blank : Heading
+blank = record {
+  maximum = None;
+  minimum = None;
+  connecting = None;
+  idle = None;
+  if_not_given = record { maximum = 0; minimum = 0; connecting = 0; idle = 0 };
+  is_begun = false;
+}
+
 abbrev pub options_of : Heading → Options
-options_of h = record { maximum = unwrap_or h.maximum 0; minimum = unwrap_or h.minimum 0; connecting = unwrap_or h.connecting 0; idle = unwrap_or h.idle 0 }
+options_of h = record {
+  maximum = unwrap_or h.maximum h.if_not_given.maximum;
+  minimum = unwrap_or h.minimum h.if_not_given.minimum;
+  connecting = unwrap_or h.connecting h.if_not_given.connecting;
+  idle = unwrap_or h.idle h.if_not_given.idle;
+}
 
 abbrev pub has : Heading → Setting → Bool
 has h Maximum = is_some h.maximum
@@ -28,15 +40,15 @@ has h MaxConnecting = is_some h.connecting
 
 module _ (h : Heading) where
   abbrev pub with_setting : Setting → ℕ → Heading
-  with_setting Maximum n = record { maximum = Some n; minimum = h.minimum; connecting = h.connecting; idle = h.idle; is_begun = h.is_begun }
-  with_setting Minimum n = record { maximum = h.maximum; minimum = Some n; connecting = h.connecting; idle = h.idle; is_begun = h.is_begun }
-  with_setting MaxConnecting n = record { maximum = h.maximum; minimum = h.minimum; connecting = Some n; idle = h.idle; is_begun = h.is_begun }
+  with_setting Maximum n = record { maximum = Some n; minimum = h.minimum; connecting = h.connecting; idle = h.idle; if_not_given = h.if_not_given; is_begun = h.is_begun }
+  with_setting Minimum n = record { maximum = h.maximum; minimum = Some n; connecting = h.connecting; idle = h.idle; if_not_given = h.if_not_given; is_begun = h.is_begun }
+  with_setting MaxConnecting n = record { maximum = h.maximum; minimum = h.minimum; connecting = Some n; idle = h.idle; if_not_given = h.if_not_given; is_begun = h.is_begun }
 
   abbrev pub with_idle : ℕ → Heading
-  with_idle n = record { maximum = h.maximum; minimum = h.minimum; connecting = h.connecting; idle = Some n; is_begun = h.is_begun }
+  with_idle n = record { maximum = h.maximum; minimum = h.minimum; connecting = h.connecting; idle = Some n; if_not_given = h.if_not_given; is_begun = h.is_begun }
 
   abbrev pub with_event : Heading
-  with_event = record { maximum = h.maximum; minimum = h.minimum; connecting = h.connecting; idle = h.idle; is_begun = true }
+  with_event = record { maximum = h.maximum; minimum = h.minimum; connecting = h.connecting; idle = h.idle; if_not_given = h.if_not_given; is_begun = true }
 
 -- ── A line ─────────────────────────────────────────────────────────────────────────────────────────────────────────────────
 

@@ -7,26 +7,26 @@ ghost use Rattle.heading.specs.Heading.{options_of, blank, has, with_setting, op
 use definition::{Event, Options};
 use notation::{Expected, Said, Setting};
 
-// The options given so far, and whether an event has come.
+// The options given so far, what stands for one that is not, and whether an event has come.
 #[derive(Clone, Copy)]
 pub struct Heading {
     pub maximum: Option<u32>,
     pub minimum: Option<u32>,
     pub connecting: Option<u32>,
     pub idle: Option<u64>,
+    pub if_not_given: Options,
     pub is_begun: bool,
 }
 
 impl Heading {
-    // One that is not given is 0.
     pub fn options(&self) -> Options
         ensures { result ≡ options_of self.now }
     {
         Options {
-            maximum: self.maximum.unwrap_or(0),
-            minimum: self.minimum.unwrap_or(0),
-            connecting: self.connecting.unwrap_or(0),
-            idle: self.idle.unwrap_or(0),
+            maximum: self.maximum.unwrap_or(self.if_not_given.maximum),
+            minimum: self.minimum.unwrap_or(self.if_not_given.minimum),
+            connecting: self.connecting.unwrap_or(self.if_not_given.connecting),
+            idle: self.idle.unwrap_or(self.if_not_given.idle),
         }
     }
 }
@@ -39,7 +39,7 @@ pub enum Told {
     Mistake(Expected),
 }
 
-// Before the first line.
+// Before the first line: an option that is not given is 0.
 pub fn blank() -> Heading
     ensures { result ≡ blank }
 {
@@ -48,6 +48,12 @@ pub fn blank() -> Heading
         minimum: None,
         connecting: None,
         idle: None,
+        if_not_given: Options {
+            maximum: 0,
+            minimum: 0,
+            connecting: 0,
+            idle: 0,
+        },
         is_begun: false,
     }
 }

@@ -94,6 +94,6 @@ module _ (w : ConnectionPoolWorker) (whole : Whole (pool_in w)) where
     pub putting_more : (s : Slot) → i < slot_count → s ≡ value_at w i → Column (slot_values w) (set slots i s) (i + 1)
     putting_more s low e = column_more (slot_values w) slots s s i low values_long (e ∙ sym (values_at i s low)) t
 
-    pub putting_end : i ≡ slot_count → ◌≡◌ {A = Pool} (record { head = w.head; slots = slots; available = w.available; waiters = w.waiters }) (pool_from (pool_in w))
+    pub putting_end : i ≡ slot_count → {available : List ℕ} → available ≡ w.available → ◌≡◌ {A = Pool} (record { head = w.head; slots = slots; available = available; waiters = w.waiters }) (pool_from (pool_in w))
     unfolding pool_from
-    putting_end e = rw (column_end (slot_values w) slots i e values_long t)
+    putting_end e a = rw (column_end (slot_values w) slots i e values_long t, a)

@@ -64,6 +64,7 @@ fn capped(age: u64) -> u32
 }
 
 // What the test's answer makes of a connection that is not stale.
+#[tactic(auto, using(crate::proofs::Reason::by_age))]
 fn idle_reason(age: u64) -> Option<(ClosedReason, u32)>
     ensures { result ≡ (when 0 <? age then Some (Idle, min age most_age) else None) }
 {

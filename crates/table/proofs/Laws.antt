@@ -43,9 +43,13 @@ moved_up : {A : Type 0} (x : A) (r : List A) (v : A) → set (take (length r) r 
 moved_up x [] v = refl
 moved_up x (y ∷ r) v = ap (λ l. y ∷ l) (moved_up y r v)
 
-pub shift_set : {A : Type 0} (l : List A) (v : A) → 0 < length l → set (copy_within l 1 (length l) 0) (length l - 1) v ≡ drop 1 l ++ v ∷ []
-shift_set [] v h = absurd (omega arith)
-shift_set (x ∷ r) v h = let e : suc (length r) - 1 ≡ length r = omega arith in let z : 0 + length r ≡ length r = omega arith in rw (e, z) (moved_up x r v)
+pub shift_set : {A : Type 0} (l : List A) (v : A) {moved : List A} {last : ℕ} → moved ≡ copy_within l 1 (length l) 0 → suc last ≡ length l → set moved last v ≡ drop 1 l ++ v ∷ []
+shift_set [] v m h = absurd (omega arith)
+shift_set (x ∷ r) v {last} m h =
+    let e : suc (length r) - 1 ≡ length r = omega arith in
+    let z : 0 + length r ≡ length r = omega arith in
+    let k : last ≡ length r = omega (arith, h) in
+    rw (m, e, z, k) (moved_up x r v)
 
 tail : (m : ℕ) (l : List ℕ) → drop 1 (take (suc m) l) ≡ take m (drop 1 l)
 tail m [] = sym (take-nil m)

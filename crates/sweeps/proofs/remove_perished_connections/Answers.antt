@@ -1,4 +1,4 @@
-use Rattle.std.proofs.Common.{arith, rules, sym, ◌∙◌}
+use Rattle.std.proofs.Common.{arith, rules}
 use Rattle.slots.specs.View.{pool_in}
 use Rattle.slots.specs.Parts.{worker_whole}
 use Rattle.slots.specs.Slots.{prune, remove_perished}
@@ -14,23 +14,23 @@ examine-front-requires c = prune_looks c.loop-worker.worker c.loop-worker.invari
 
 pub returns-in_default : goal.returns-in_default
 unfolding remove_perished
-returns-in_default c = pruned_some c.loop-worker.worker c.loop-worker.invariant c.examine-front.ensures.slot (sym c.in_default.is ∙ c.examine-front.ensures.why)
+returns-in_default c = pruned_some c.loop-worker.worker c.loop-worker.invariant c.examine-front.ensures.slot (grind arith)
 
 pub pop_front-requires : goal.pop_front-requires
 pop_front-requires c = sweep_pops c.loop-worker.invariant c.loop-worker-test.true
 
 pub close_connection-requires : goal.close_connection-requires
 close_connection-requires c =
-    prune_closes c.loop-worker.worker c.loop-worker.invariant c.examine-front.ensures.slot (sym c.in-Some.is ∙ c.examine-front.ensures.why) c.loop-worker-test.true c.pop_front.ensures
+    prune_closes c.loop-worker.worker c.loop-worker.invariant c.examine-front.ensures.slot {reason = c.in-Some.reason} {age = c.in-Some.age} (grind arith) c.loop-worker-test.true c.pop_front.ensures
 
 pub loop-worker-smaller : goal.loop-worker-smaller
 loop-worker-smaller c =
-    let turned = prune_turns c.loop-worker.worker c.loop-worker.invariant c.examine-front.ensures.slot (sym c.in-Some.is ∙ c.examine-front.ensures.why) c.loop-worker-test.true c.pop_front.ensures c.close_connection.ensures in
+    let turned = prune_turns c.loop-worker.worker c.loop-worker.invariant c.examine-front.ensures.slot {reason = c.in-Some.reason} {age = c.in-Some.age} (grind arith) c.loop-worker-test.true c.pop_front.ensures c.close_connection.ensures in
     omega (arith, c.loop-worker-test.true, turned.count)
 
 pub loop-worker-preserved : goal.loop-worker-preserved
 loop-worker-preserved c =
-    sweep_at (prune_turns c.loop-worker.worker c.loop-worker.invariant c.examine-front.ensures.slot (sym c.in-Some.is ∙ c.examine-front.ensures.why) c.loop-worker-test.true c.pop_front.ensures c.close_connection.ensures)
+    sweep_at (prune_turns c.loop-worker.worker c.loop-worker.invariant c.examine-front.ensures.slot {reason = c.in-Some.reason} {age = c.in-Some.age} (grind arith) c.loop-worker-test.true c.pop_front.ensures c.close_connection.ensures)
 
 pub returns : goal.returns
 unfolding remove_perished

@@ -1,10 +1,10 @@
 -- One law for each exit: what the code knows there gives the answer of the tests.
-use Rattle.std.specs.Prelude.{◌≡◌, ◌⊎◌, ◌&&◌, refl, Bool, true, false, List, ℕ, ◌%◌, ◌≤◌, ◌<◌, length, get_or}
+use Rattle.std.specs.Prelude.{◌≡◌, ◌⊎◌, refl, Bool, true, false, List, ℕ, ◌%◌, ◌≤◌, ◌<◌, length, get_or}
 use Rattle.std.proofs.Math.Path.{sym}
-use Rattle.std.proofs.Common.{inl, inr, subst, ap, ◌∙◌, arith, leb-true, leb-false}
+use Rattle.std.proofs.Common.{inl, inr, ap, ◌∙◌, arith}
 use Rattle.std.proofs.Math.ListN.{get_or-eq_default}
-use borrow.Author.Tests.{le-leb, lt-leb, lt-ltb, le-ltb, ne_eqb}
-use Rattle.definition.specs.Words.{when◌then◌else◌, ◌<?◌}
+use borrow.Author.Tests.{le-leb, lt-ltb, le-ltb, ne_eqb}
+use Rattle.definition.specs.Words.{when◌then◌else◌}
 use Rattle.definition.specs.Pool.{slot_count}
 use Rattle.definition.specs.Refusals.{first, wrong_time}
 use Rattle.definition.specs.Steps.{◌to◌holds◌}
@@ -13,14 +13,12 @@ use Rattle.definition.specs.declared.Event.TheVariants.{CheckOut, WarmPool, Clea
 use Rattle.definition.specs.declared.Refusal.{Refusal}
 use Rattle.definition.specs.declared.Refusal.TheVariants.{WrongState, WrongTime, NotWaiting, AlreadyPinned}
 use Rattle.slots.specs.Call.{slot_of, state_of, time_of, kind_tests, or_accept, no_target, target, tests, verdict}
-use Rattle.slots.specs.Order.{place_of}
+use Rattle.slots.specs.Order.{place_of, slot_holding}
 use Rattle.slots.specs.Parts.{slots_at}
-use Rattle.slots.specs.View.{SlotPool, Slot, vacant, slots_of, slot_at, Whole, pool_in}
-use Rattle.slots.specs.declared.ConnectionPoolWorker.{ConnectionPoolWorker}
+use Rattle.slots.specs.View.{SlotPool, Slot, vacant, slots_of, slot_at}
 use Rattle.slots.specs.declared.Status.{Status}
 use Rattle.slots.specs.Outcome.{Verdict}
 use Rattle.std.specs.declared.result.Result.TheVariants.{Ok, Err}
-use Rattle.std.specs.declared.result.Result.{Result}
 use Rattle.common_tests.specs.Tests.{common_tests, common_verdict}
 use Rattle.common_tests.specs.Laws.{common_refused, common_passed}
 use Rattle.verdict.specs.Look.{found, Looks, in_states, request_list, abandon_list, state_list, time_list, pin_list, kind_verdict}
@@ -32,32 +30,35 @@ use Rattle.verdict.specs.declared.Found.{Found}
 abbrev what : ℕ → ℕ → ℕ → Found
 what i s t = record { at = i; state = s; time = t }
 
-module _ (w : ConnectionPoolWorker) (whole : Whole (pool_in w)) (id : ℕ) {i : ℕ} (e : i ≡ slot_of (pool_in w) id) where
-  pub look_found : i < slot_count → Looks (pool_in w) id (Ok (what i (get_or w.states i 0) (get_or w.times i 0)))
-  look_found low =
-      let s = slots_at w.generations w.times w.states whole.slots i low in
-      (subst (λ (x : ℕ). what i (get_or w.states i 0) (get_or w.times i 0) ≡ what x (slot_at (pool_in w) x).state (slot_at (pool_in w) x).time) e (ap (λ (x : Slot). what i x.state x.time) (sym s)), subst (λ (x : ℕ). x < slot_count) e low)
+found_as : {i s t j r u : ℕ} → i ≡ j → s ≡ r → t ≡ u → what i s t ≡ what j r u
+found_as a b c = rw (a, b, c)
 
-  pub look_missed : slot_count ≤ i → Looks (pool_in w) id (Err WrongState)
+module _ (ids generations times states : List ℕ) (id : ℕ) {i : ℕ} (w : length (slots_of generations times states) ≡ slot_count) (e : i ≡ slot_holding id ids) where
+  pub look_found : i < slot_count → Looks ids (slots_of generations times states) id (what i (get_or states i 0) (get_or times i 0))
+  look_found low =
+      let s = slots_at generations times states w i low in
+      record { at = e; state = sym (ap (λ (x : Slot). x.state) s); time = sym (ap (λ (x : Slot). x.time) s) }
+
+  pub look_missed : slot_count ≤ i → Looks ids (slots_of generations times states) id (what i 0 0)
   look_missed high =
-      (refl, subst (λ (x : ℕ). slot_count ≤ x) e high, subst (λ (x : ℕ). (slot_at (pool_in w) x).state ≡ 0) e (ap (λ (x : Slot). x.state) (get_or-eq_default (slots_of w.generations w.times w.states) vacant {n = i} (omega (arith, whole.slots, high)))))
+      let s = get_or-eq_default (slots_of generations times states) vacant {n = i} (omega (arith, w, high)) in
+      record { at = e; state = sym (ap (λ (x : Slot). x.state) s); time = sym (ap (λ (x : Slot). x.time) s) }
 
 module _ (P : SlotPool) (id : ℕ) where
+  found_is : {f : Found} → Looks P.ids P.slots id f → f ≡ found P id
+  found_is l = found_as l.at (l.state ∙ ap (λ (x : ℕ). (slot_at P x).state) l.at) (l.time ∙ ap (λ (x : ℕ). (slot_at P x).time) l.at)
+
   -- ── A state ──────────────────────────────────────────────────────────────────────────────────────────────────────────
 
   module _ (low high : ℕ) where
-    pub in_missed : 0 < low → {r : Refusal} → Looks P id (Err r) → Err r ≡ in_states P id low high
-    unfolding when◌then◌else◌
-    in_missed pos h = rw (h.0, h.2, lt-leb low 0 pos)
-
-    module _ {f : Found} (h : Looks P id (Ok f)) where
+    module _ {f : Found} (h : Looks P.ids P.slots id f) where
       pub in_found : low ≤ f.state → f.state ≤ high → Ok f ≡ in_states P id low high
       unfolding when◌then◌else◌
-      in_found a b = let e = h.0 in rw (e, le-leb low _ (rw e at a), le-leb _ high (rw e at b))
+      in_found a b = let e = found_is h in rw (e, le-leb low _ (rw e at a), le-leb _ high (rw e at b))
 
       pub in_other : (low ≤ f.state → f.state ≤ high → ⊥) → Err WrongState ≡ in_states P id low high
       unfolding when◌then◌else◌
-      in_other n = let e = h.0 in rw (outside low high (state_of P id) (rw e at n))
+      in_other n = let e = found_is h in rw (outside low high (state_of P id) (rw e at n))
 
     -- what is known of the one in a state of the range, and where there is none
     states_ok : {f : Found} → Ok f ≡ in_states P id low high → (f ≡ found P id) × ((low to high holds state_of P id) ≡ true)
@@ -111,23 +112,19 @@ module _ (P : SlotPool) (id : ℕ) where
   abbrev pinned : Verdict
   pinned = or_accept (slot_of P id) (first (pin_list (state_of P id)))
 
-  pub pin_missed : {r : Refusal} → Looks P id (Err r) → Err r ≡ pinned
-  unfolding first when◌then◌else◌
-  pin_missed h = rw (h.0, h.2)
-
-  module _ {f : Found} (h : Looks P id (Ok f)) where
+  module _ {f : Found} (h : Looks P.ids P.slots id f) where
     pub pin_right : f.state ≡ 2 → Ok f.at ≡ pinned
     unfolding first when◌then◌else◌
-    pin_right q = let e = h.0 in rw (e, rw e at q)
+    pin_right q = let e = found_is h in rw (e, rw e at q)
 
     pub pin_again : 3 ≤ f.state → f.state ≤ 4 → Err AlreadyPinned ≡ pinned
     unfolding first when◌then◌else◌
-    pin_again a b = let e = h.0 in rw (le-leb 3 _ (rw e at a), le-leb _ 4 (rw e at b))
+    pin_again a b = let e = found_is h in rw (le-leb 3 _ (rw e at a), le-leb _ 4 (rw e at b))
 
     pub pin_other : (2 ≤ f.state → f.state ≤ 4 → ⊥) → Err WrongState ≡ pinned
     unfolding first when◌then◌else◌
     pin_other n =
-        let k : 2 ≤ state_of P id → state_of P id ≤ 4 → ⊥ = let e = h.0 in rw e at n in
+        let k : 2 ≤ state_of P id → state_of P id ≤ 4 → ⊥ = let e = found_is h in rw e at n in
         rw (outside 3 4 (state_of P id) (λ a b. k (omega (arith, a)) b), ne_eqb (state_of P id) 2 (λ q. k (omega (arith, q)) (omega (arith, q))))
 
 -- ── The verdict, by what the shared tests say ──────────────────────────────────────────────────────────────────────────

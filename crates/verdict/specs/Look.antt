@@ -1,29 +1,30 @@
 -- A lookup by id; the tests of one kind of event.
-use Rattle.std.specs.Prelude.{◌≡◌, ◌≤◌, ◌<◌, not, ◌&&◌, List, [], ◌∷◌, ℕ, ◌%◌, get_or}
+use Rattle.std.specs.Prelude.{◌≡◌, not, ◌&&◌, List, [], ◌∷◌, ℕ, ◌%◌, get_or}
 use Rattle.std.specs.declared.result.Result.{Result}
 use Rattle.std.specs.declared.result.Result.TheVariants.{Ok, Err}
 use Rattle.definition.specs.Words.{when◌then◌else◌, ◌<?◌, ◌≤?◌, ◌=?◌}
-use Rattle.definition.specs.Pool.{slot_count, queue_length}
+use Rattle.definition.specs.Pool.{queue_length}
 use Rattle.definition.specs.Steps.{◌to◌holds◌}
 use Rattle.definition.specs.Refusals.{Test, ◌if◌, first, wrong_time}
 use Rattle.definition.specs.declared.Event.{Event}
 use Rattle.definition.specs.declared.Refusal.{Refusal}
 use Rattle.definition.specs.declared.Refusal.TheVariants.{OldRequest, QueueFull, WrongState, WrongTime, NotWaiting, AlreadyPinned}
 use Rattle.slots.specs.Call.{slot_of, state_of, time_of, kind_tests, or_accept, target}
-use Rattle.slots.specs.Order.{place_of}
-use Rattle.slots.specs.View.{SlotPool}
+use Rattle.slots.specs.Order.{place_of, slot_holding}
+use Rattle.slots.specs.View.{SlotPool, Slot, vacant}
 use Rattle.slots.specs.Outcome.{Verdict}
 use Rattle.verdict.specs.declared.Found.{Found}
+
+-- what is found is the slot of the id, and what stands there
+pub record Looks (ids : List ℕ) (slots : List Slot) (id : ℕ) (f : Found) : Type 0 where
+  pub at : f.at ≡ slot_holding id ids
+  pub state : f.state ≡ (get_or slots f.at vacant).state
+  pub time : f.time ≡ (get_or slots f.at vacant).time
 
 module _ (p : SlotPool) (id : ℕ) where
   -- the slot of the id, and what stands there
   abbrev pub found : Found
   found = record { at = slot_of p id; state = state_of p id; time = time_of p id }
-
-  -- what a lookup finds; where no slot has the id, the state is 0, which is no connection's
-  abbrev pub Looks : Result Found Refusal → Type 0
-  Looks (Ok f) = (f ≡ found) × (slot_of p id < slot_count)
-  Looks (Err r) = (r ≡ WrongState) × (slot_count ≤ slot_of p id) × (state_of p id ≡ 0)
 
   -- where it is in a state of the range
   abbrev pub in_states : (low high : ℕ) → Result Found Refusal

@@ -1,7 +1,7 @@
 // What the tests say of an event: refused, or at which slot or waiter.
 #![tactic(auto)]
 
-ghost use Rattle.std.specs.Prelude.{◌≡◌, ◌≤◌, ◌<◌};
+ghost use Rattle.std.specs.Prelude.{◌≡◌, ◌≤◌};
 ghost use Rattle.definition.specs.Pool.{queue_length};
 ghost use Rattle.definition.specs.Refusals.{first};
 ghost use Rattle.slots.specs.Order.{place_of};
@@ -15,7 +15,7 @@ use slots::{ConnectionPoolWorker, Verdict, Waiters};
 // What an event is accepted with that names neither a slot nor a waiter.
 const NO_TARGET: usize = 0;
 
-// The slot of an id, and what stands there.
+// The slot of an id, the count of slots where none has it, and what stands there.
 #[derive(Clone, Copy)]
 pub struct Found {
     pub at: usize,
@@ -23,19 +23,23 @@ pub struct Found {
     pub time: u64,
 }
 
-// An id that no slot has is refused as one in a wrong state.
-pub fn look(worker: &ConnectionPoolWorker, id: u32) -> Result<Found, Refusal>
-    ensures { Looks (pool_in worker.now) id result }
+// Of an id that no slot has, the state is 0, as that of a vacant slot.
+pub fn look(worker: &ConnectionPoolWorker, id: u32) -> Found
+    ensures { Looks (pool_in worker.now).ids (pool_in worker.now).slots id result }
 {
     let i = table::find(&worker.ids, id);
     if i < SLOTS {
-        return Ok(Found {
+        return Found {
             at: i,
             state: worker.states[i],
             time: worker.times[i],
-        });
+        };
     }
-    Err(Refusal::WrongState)
+    Found {
+        at: i,
+        state: 0,
+        time: 0,
+    }
 }
 
 // 6 and 7, of a request.
@@ -65,10 +69,9 @@ fn abandon_verdict(waiters: &Waiters, waiting: usize, id: u32) -> Verdict
 
 // The connection's slot, where it is in a state of the range. That of no connection is 0, which no range holds.
 fn find_in(worker: &ConnectionPoolWorker, id: u32, low: u8, high: u8) -> Result<Found, Refusal>
-    requires { 0 < low }
     ensures { result ≡ in_states (pool_in worker.now) id low high }
 {
-    let f = look(worker, id)?;
+    let f = look(worker, id);
     if !(low..=high).contains(&f.state) {
         return Err(Refusal::WrongState);
     }
@@ -77,7 +80,6 @@ fn find_in(worker: &ConnectionPoolWorker, id: u32, low: u8, high: u8) -> Result<
 
 // 8.
 fn state_verdict(worker: &ConnectionPoolWorker, id: u32, low: u8, high: u8) -> Verdict
-    requires { 0 < low }
     ensures { result ≡ or_accept (slot_of (pool_in worker.now) id) (first (state_list (state_of (pool_in worker.now) id) low high)) }
 {
     Ok(find_in(worker, id, low, high)?.at)
@@ -92,7 +94,6 @@ fn time_verdict(
     second: u64,
     time: u64,
 ) -> Verdict
-    requires { 0 < low }
     ensures { result ≡ or_accept (slot_of (pool_in worker.now) id) (first (time_list (state_of (pool_in worker.now) id) low high second (time_of (pool_in worker.now) id) time)) }
 {
     let f = find_in(worker, id, low, high)?;
@@ -106,7 +107,7 @@ fn time_verdict(
 fn pin_verdict(worker: &ConnectionPoolWorker, id: u32) -> Verdict
     ensures { result ≡ or_accept (slot_of (pool_in worker.now) id) (first (pin_list (state_of (pool_in worker.now) id))) }
 {
-    let f = look(worker, id)?;
+    let f = look(worker, id);
     match f.state {
         2 => Ok(f.at),
         3 | 4 => Err(Refusal::AlreadyPinned),

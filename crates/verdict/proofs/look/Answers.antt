@@ -6,9 +6,9 @@ use Rattle.verdict.proofs.look.Goals as goal
 pub returns-then-i-lt-SLOTS : goal.returns-then-i-lt-SLOTS
 returns-then-i-lt-SLOTS c =
     let w = c.args.worker.now in
-    look_found w (worker_whole w (search rules)) c.args.id c.find-i.ensures c.if-i-lt-SLOTS.true
+    look_found w.ids w.generations w.times w.states c.args.id (worker_whole w (search rules)).slots c.find-i.ensures c.if-i-lt-SLOTS.true
 
 pub returns : goal.returns
 returns c =
     let w = c.args.worker.now in
-    look_missed w (worker_whole w (search rules)) c.args.id c.find-i.ensures c.if-i-lt-SLOTS.false
+    look_missed w.ids w.generations w.times w.states c.args.id (worker_whole w (search rules)).slots c.find-i.ensures c.if-i-lt-SLOTS.false

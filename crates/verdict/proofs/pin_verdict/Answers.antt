@@ -1,22 +1,16 @@
 use Rattle.std.proofs.Common.{arith}
-use Rattle.std.proofs.lemmas.Result.{err_from_is_err_and}
 use Rattle.slots.specs.View.{pool_in}
-use Rattle.verdict.specs.Exits.{pin_missed, pin_right, pin_again, pin_other}
+use Rattle.verdict.specs.Exits.{pin_right, pin_again, pin_other}
 use Rattle.verdict.proofs.pin_verdict.Goals as goal
 
-pub returns-in_err-f : goal.returns-in_err-f
-returns-in_err-f c =
-    let p = err_from_is_err_and c.from_residual.result c.from_residual.ensures.1 in
-    rw (p.1, p.2) (pin_missed (pool_in c.args.worker.now) c.args.id c.in_err-f.ensures)
-
 pub returns-in-2 : goal.returns-in-2
-returns-in-2 c = pin_right (pool_in c.args.worker.now) c.args.id c.in_ok-f.ensures c.in-2.is
+returns-in-2 c = pin_right (pool_in c.args.worker.now) c.args.id c.look-f.ensures c.in-2.is
 
 pub returns-in-3 : goal.returns-in-3
-returns-in-3 c = pin_again (pool_in c.args.worker.now) c.args.id c.in_ok-f.ensures (omega arith) (omega arith)
+returns-in-3 c = pin_again (pool_in c.args.worker.now) c.args.id c.look-f.ensures (omega arith) (omega arith)
 
 pub returns-in_default : goal.returns-in_default
-returns-in_default c = pin_other (pool_in c.args.worker.now) c.args.id c.in_ok-f.ensures (λ a b. omega (arith, a, b))
+returns-in_default c = pin_other (pool_in c.args.worker.now) c.args.id c.look-f.ensures (λ a b. omega (arith, a, b))
 
 pub returns-in_default-2 : goal.returns-in_default-2
-returns-in_default-2 c = pin_other (pool_in c.args.worker.now) c.args.id c.in_ok-f.ensures (λ a b. omega (arith, a, b))
+returns-in_default-2 c = pin_other (pool_in c.args.worker.now) c.args.id c.look-f.ensures (λ a b. omega (arith, a, b))

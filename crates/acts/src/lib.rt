@@ -2,7 +2,7 @@
 // record down behind those that the event has said before.
 #![tactic(auto)]
 
-ghost use Rattle.std.specs.Prelude.{◌≡◌, ◌<◌};
+ghost use Rattle.std.specs.Prelude.{◌≡◌, ◌+◌, ◌*◌, ◌≤◌, ◌<◌, length};
 ghost use Rattle.definition.specs.Pool.{slot_count, state_no};
 ghost use Rattle.definition.specs.Records.{told};
 ghost use Rattle.records.specs.Output.{RoomFor, Emits};
@@ -17,7 +17,7 @@ use slots::ConnectionPoolWorker;
 
 // A waiter is told: the reply, or that nobody listens any more, where it was abandoned.
 pub fn tell(records: &mut Records, waiter: u64, reply: Reply)
-    requires { RoomFor 1 records.old }
+    requires { 16 * (records.old.count + 1) ≤ length records.old.out.now }
     ensures { Emits (told reply (waiter_of waiter)) records.old records.new }
 {
     let id = (waiter / 4 % 4294967296) as u32;

@@ -3,7 +3,7 @@ use Rattle.std.specs.Prelude.{◌≡◌, ℕ, ◌+◌, ◌<◌, ◌≤◌, List,
 use Rattle.std.proofs.Common.{sym, arith, lt-ltb, le-ltb}
 use Rattle.std.proofs.Math.Path.{ap}
 use Rattle.definition.specs.Words.{when◌then◌else◌}
-use Rattle.definition.specs.Refusals.{enough_room}
+use Rattle.definition.specs.Refusals.{enough_room, room_records}
 use Rattle.definition.specs.Bytes.{serial_of}
 use Rattle.definition.specs.declared.Event.{Event}
 use Rattle.definition.specs.declared.Frame.{Frame}
@@ -13,7 +13,11 @@ use Rattle.definition.specs.declared.Refusal.TheVariants.{OutputShort, Malformed
 use Rattle.slots.specs.View.{SlotPool, with_clock, with_serial}
 use Rattle.slots.specs.Done.{Done}
 use Rattle.slots.specs.Slots.{event}
-use Rattle.slots.specs.Call.{verdict, world, accepted, judged, step, call}
+use Rattle.slots.specs.Call.{target, verdict, world, accepted, judged, step, call}
+use Rattle.refinement.specs.Stands.{Formed}
+use Rattle.refinement.specs.Tests.{Passed}
+use Rattle.refinement.proofs.RecordRoom.{event_few}
+use Rattle.performing.specs.Laws.{asks}
 use Rattle.std.specs.declared.result.Result.TheVariants.{Ok, Err}
 
 module _ (p : SlotPool) (l : List ℕ) (e : Event) (now : ℕ) where
@@ -24,6 +28,10 @@ module _ (p : SlotPool) (l : List ℕ) (e : Event) (now : ℕ) where
   pub step_taken : (i : ℕ) → verdict p e now ≡ Ok i → step p l e now ≡ accepted p l (event e i (with_clock p now))
   unfolding step
   step_taken i h = ap (judged p l e now) h
+
+-- what is written is counted in four bytes
+pub step_few : (p : SlotPool) (e : Event) (now i : ℕ) → Formed p → Passed p e now → i ≡ target p e → length (event e i (with_clock p now)).records ≤ room_records
+step_few p e now i f h at = let a = asks p e now f h i at in event_few a.stands e i a.fit
 
 -- what was done, with the serial moved once
 pub step_done : (p : SlotPool) (l : List ℕ) (e : Event) (now i : ℕ) (q : SlotPool) {s m : ℕ} {k : List ℕ}

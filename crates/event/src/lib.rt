@@ -24,8 +24,9 @@ pub fn step(worker: &mut ConnectionPoolWorker, out: &mut [u8], e: Event, time: u
         count: 0,
     };
     performing::event(worker, &mut records, e, time, i);
-    worker.head.serial = std::num::wrapping_add_u32(serial, records.count);
-    Ok(records.count)
+    let count = records.count as u32;
+    worker.head.serial = std::num::wrapping_add_u32(serial, count);
+    Ok(count)
 }
 
 // Any frame, any output.

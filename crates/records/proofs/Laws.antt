@@ -79,6 +79,10 @@ unfolding when◌then◌else◌
 cleared_numbers true f cause generation e = ap (λ (x : Fields). fields x.kind 1 x.id x.other) e
 cleared_numbers false f cause generation e = ap (λ (x : Fields). fields x.kind 0 x.id x.other) e
 
+-- a serial wraps, so of the count only the low four bytes are added
+pub serial_low : (s n : ℕ) → serial_of (s + n % 4294967296) ≡ serial_of (s + n)
+serial_low s n = omega arith
+
 -- ── A request's number is printed in four bytes ──
 
 fields_low : (s kind n other : ℕ) → record_bytes s (fields kind 0 (n % 4294967296) other) ≡ record_bytes s (fields kind 0 n other)

@@ -1,10 +1,10 @@
 // An event's output: records laid down in lent bytes, one after the other.
 #![tactic(auto)]
 
-ghost use Rattle.std.specs.Prelude.{◌≡◌, ◌≤◌, ◌++◌, length, drop};
+ghost use Rattle.std.specs.Prelude.{◌≡◌, ◌+◌, ◌*◌, ◌≤◌, ◌++◌, length, drop};
 ghost use Rattle.definition.specs.Records.{fields, fields_of};
 ghost use Rattle.definition.specs.Bytes.{record_bytes};
-ghost use Rattle.records.specs.Output.{RoomFor, Emits};
+ghost use Rattle.records.specs.Output.{Emits};
 ghost use Rattle.records.specs.Numbers.{numbers};
 
 use definition::{RECORD, Record, Reply};
@@ -84,18 +84,19 @@ pub fn put_record(o: &mut [u8], kind: u8, reason: u8, serial: u32, id: u64, othe
 pub struct Records<'a> {
     pub out: &'a mut [u8],
     pub serial: u32,
-    pub count: u32,
+    pub count: usize,
 }
 
 impl Records<'_> {
     // One record more, behind the others; its serial follows from how many they are.
     pub fn emit(&mut self, r: Record)
-        requires { RoomFor 1 self.old }
+        requires { 16 * (self.old.count + 1) ≤ length self.old.out.now }
         ensures { Emits r self.old self.new }
     {
         let f = Fields::of(r);
-        let at = RECORD * self.count as usize;
-        let serial = std::num::wrapping_add_u32(self.serial, self.count);
+        let at = RECORD * self.count;
+        let low = (self.count % 4294967296) as u32;
+        let serial = std::num::wrapping_add_u32(self.serial, low);
         put_record(
             &mut self.out[at..],
             f.kind,

@@ -1,9 +1,9 @@
 use Rattle.std.specs.Prelude.{refl}
-use Rattle.std.proofs.Common.{sym}
+use Rattle.std.proofs.Common.{sym, arith}
 use Rattle.std.proofs.lemmas.Result.{err_from_is_err_and}
 use Rattle.slots.specs.View.{pool_in}
 use Rattle.refinement.proofs.Tests.{verdict_passed}
-use Rattle.event.specs.Laws.{step_refused, step_done}
+use Rattle.event.specs.Laws.{step_few, step_refused, step_done}
 use Rattle.event.proofs.step.Goals as goal
 
 pub event-requires : goal.event-requires
@@ -16,6 +16,12 @@ pub returns-in_err-i : goal.returns-in_err-i
 returns-in_err-i c =
     let p = err_from_is_err_and c.from_residual.result c.from_residual.ensures.1 in
     rw (p.1, p.2) (sym (step_refused (pool_in c.args.worker.now) c.args.out.now c.args.e c.args.time _ (sym c.in_err-i.ensures)))
+
+pub overflow_cast-count : goal.overflow_cast-count
+overflow_cast-count c =
+    let r = c.requires in
+    let v = verdict_passed r.0.stands c.args.e c.args.time _ (sym c.in_ok-i.ensures) in
+    omega (arith, c.event.ensures.done.count, step_few (pool_in c.args.worker.now) c.args.e c.args.time _ r.0 v.0 v.1)
 
 -- the output is what the records hold, which are still those that were lent
 pub returns : goal.returns

@@ -26,7 +26,7 @@ tell_all-requires c =
 pub emit-requires : goal.emit-requires
 emit-requires c =
     let r = c.requires in
-    told_room r.0.stands r.2 r.1 c.close_available.ensures Gone c.tell_all.ensures
+    (told_room r.0.stands r.2 r.1 c.close_available.ensures Gone c.tell_all.ensures).0
 
 pub returns : goal.returns
 unfolding shut enter

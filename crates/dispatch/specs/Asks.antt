@@ -1,17 +1,18 @@
 -- What an event's own step asks of the pool, its clock being the event's.
-use Rattle.std.specs.Prelude.{◌≡◌, Bool, ℕ, ◌%◌, ◌≤◌, ◌<◌, length, get_or}
+use Rattle.std.specs.Prelude.{◌≡◌, Bool, List, ℕ, ◌%◌, ◌≤◌, ◌<◌, length, get_or}
 use Rattle.std.proofs.Common.{ap, subst, arith}
 use Rattle.definition.specs.Pool.{Pool, queue_length, slot_count}
 use Rattle.definition.specs.Steps.{kind_no}
 use Rattle.definition.specs.Refusals.{enough_room, last_next_id, last_generation}
 use Rattle.definition.specs.declared.Event.{Event}
 use Rattle.definition.specs.declared.Event.TheVariants.{CheckOut, WarmPool, Abandon, CheckIn, Clear, Succeeded, SucceededForPool, Failed, Maintenance, Pin, ReturnToPinner, TakeFromPinner}
-use Rattle.slots.specs.View.{SlotPool}
+use Rattle.records.specs.Output.{Room}
+use Rattle.slots.specs.View.{SlotPool, Whole}
 use Rattle.slots.specs.Needs.{CanClose, CanShelve, CanLeave, CanQueue}
 use Rattle.refinement.specs.Mirror.{is_lent, is_pending}
 use Rattle.refinement.specs.Stands.{Stands}
 use Rattle.refinement.specs.Events.{Holds, New, Fit}
-use Rattle.refinement.proofs.Needs.{can_queue, can_close, can_shelve, can_leave}
+use Rattle.refinement.proofs.Needs.{whole, can_queue, can_close, can_shelve, can_leave}
 use Rattle.upkeep.specs.Stood.{Stood}
 
 pub record Asks (e : Event) (i : ℕ) (p : SlotPool) : Type 0 where
@@ -27,6 +28,13 @@ pub record Asks (e : Event) (i : ℕ) (p : SlotPool) : Type 0 where
 module _ {e : Event} {i : ℕ} {p : SlotPool} (a : Asks e i p) where
   pub asks_stood : Stood p
   asks_stood = record { lists = a.lists; stands = a.stands }
+
+  pub asks_whole : Whole p
+  asks_whole = whole a.stands
+
+  -- before any record is written there is room for those that a step of one connection says
+  pub asks_few : (l : List ℕ) → enough_room ≤ length l → (k : ℕ) → k ≤ 2 → Room k 0 l
+  asks_few l room k h = (omega (arith, room, h), omega (arith, h))
 
   fits : {x : Event} → e ≡ x → Fit x p i
   fits h = subst (λ (y : Event). Fit y p i) h a.fit

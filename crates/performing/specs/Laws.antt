@@ -11,7 +11,7 @@ use Rattle.definition.specs.Refusals.{enough_room, last_next_id}
 use Rattle.definition.specs.declared.Event.{Event}
 use Rattle.records.specs.Output.{RoomFor}
 use Rattle.records.specs.declared.Records.{Records}
-use Rattle.slots.specs.View.{SlotPool, pool_in, with_clock}
+use Rattle.slots.specs.View.{SlotPool, pool_in, Whole, with_clock}
 use Rattle.slots.specs.Done.{Did}
 use Rattle.slots.specs.Needs.{CanServe}
 use Rattle.slots.specs.Slots.{handle}
@@ -40,9 +40,9 @@ module _ (p : SlotPool) (e : Event) (now : ℕ) (f : Formed p) (h : Passed p e n
   }
 
   pub serves : {w : ConnectionPoolWorker} {o o' : Records} → Did (handle e i (with_clock p now)) w o o' → o.count ≡ 0 → enough_room ≤ length o.out.now
-      → CanServe (pool_in w) × RoomFor (w.head.available_count + 2) o'
+      → Whole (pool_in w) × CanServe (pool_in w) × RoomFor (w.head.available_count + 2) o'
   serves {w} {o} d none room =
-      let can = subst (λ (x : ℕ). CanServe (handle e x (with_clock p now)).pool) (sym at) (can_serve_after p e now f h).1 in
+      let can = subst (λ (x : ℕ). Whole (handle e x (with_clock p now)).pool × CanServe (handle e x (with_clock p now)).pool) (sym at) (can_serve_after p e now f h) in
       let r = room_after asks.stands e i asks.fit o.out.now room in
       let v : w.head.available_count ≡ (handle e i (with_clock p now)).pool.availables = ap (λ (x : SlotPool). x.availables) d.done.pool in
-      (rw d.done.pool can, (omega (arith, d.done.count, d.kept.long, v, r.0), omega (arith, d.done.count, v, r.1)))
+      (rw d.done.pool can.0, rw d.done.pool can.1, (omega (arith, d.done.count, d.kept.long, v, r.0), omega (arith, d.done.count, v, r.1)))

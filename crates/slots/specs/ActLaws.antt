@@ -1,5 +1,5 @@
 -- What the acts leave of what the next act asks for, and what looking at an available connection tells.
-use Rattle.std.specs.Prelude.{◌≡◌, refl, Bool, true, false, ◌||◌, List, [], ◌∷◌, ℕ, zero, suc, ◌+◌, ◌-◌, ◌≤◌, ◌<◌, min, length, get_or, set, Some, None}
+use Rattle.std.specs.Prelude.{◌≡◌, refl, Bool, true, false, List, [], ◌∷◌, ℕ, zero, suc, ◌+◌, ◌-◌, ◌≤◌, ◌<◌, min, length, get_or, set, Some, None}
 use Rattle.std.specs.declared.option.Option.{Option}
 use Rattle.std.proofs.lemmas.Option.{none-some, same_Some}
 use Rattle.std.proofs.Common.{sym, ap, ◌∙◌, arith}
@@ -10,8 +10,8 @@ use Rattle.definition.specs.Steps.{◌>>◌}
 use Rattle.definition.specs.declared.ClosedReason.{ClosedReason}
 use Rattle.definition.specs.declared.ClosedReason.TheVariants.{Idle, Stale}
 use Rattle.slots.specs.OrderLaws.{shifted_below, length_shifted, set_below}
-use Rattle.slots.specs.View.{SlotPool, Slot, Whole, pool_in, slot_at, stale_at, idle_at, perished_at, age_told_at}
-use Rattle.slots.specs.Parts.{slot_at_lem, generation_at}
+use Rattle.slots.specs.View.{SlotPool, Slot, Whole, pool_in, slot_at, slot_in, stale_at, perished_at, age_told_at}
+use Rattle.slots.specs.Parts.{slots_at}
 use Rattle.slots.specs.Codes.{why_at, Examines}
 use Rattle.slots.specs.Needs.{taken, CanPrune}
 use Rattle.slots.specs.Slots.{close_at, pop_front, pop_back, create_pending_connection, zeroed}
@@ -60,13 +60,16 @@ said_none true x e = absurd (none-some _ e)
 said_none false x e = refl
 
 -- what `examine` gives, read off the columns and said of the slots: of a stale one, and of any other, whose age is what the idle test answers
-module _ (w : ConnectionPoolWorker) (whole : Whole (pool_in w)) (k i : ℕ) (e : i ≡ get_or w.available k 0) (low : i < slot_count) where
+module _ (w : ConnectionPoolWorker) (long : length (pool_in w).slots ≡ slot_count) (k i : ℕ) (e : i ≡ get_or w.available k 0) (low : i < slot_count) where
+  there : slot_at (pool_in w) i ≡ slot_in w.generations w.times w.states i
+  there = slots_at w.generations w.times w.states long i low
+
   since : (slot_at (pool_in w) i).time ≡ get_or w.times i 0
-  since = ap (λ (s : Slot). s.time) (slot_at_lem w whole i low)
+  since = ap (λ (s : Slot). s.time) there
 
   module _ {stale : Bool} (st : stale ≡ stale_in w.head.status.generation (get_or w.generations i 0)) where
     is_stale : {b : Bool} → stale ≡ b → stale_at (pool_in w) i ≡ b
-    is_stale y = ap (stale_in w.head.status.generation) (generation_at w whole i low) ∙ sym st ∙ y
+    is_stale y = ap (λ (s : Slot). stale_in w.head.status.generation s.generation) there ∙ sym st ∙ y
 
     pub examined_stale : stale ≡ true → Examines (pool_in w) k i (Some (Stale, 0))
     unfolding when◌then◌else◌

@@ -5,8 +5,7 @@ use Rattle.std.proofs.Common.{◌∙◌, arith}
 use Rattle.std.proofs.Math.ListN.{get_or}
 use Rattle.definition.specs.Pool.{slot_count, queue_length}
 use Rattle.slots.specs.Columns.{zip, zip_set, zip_set_second, zip_at, zip_long, zip_fits, zip_map, zip_replicate}
-use Rattle.slots.specs.View.{SlotPool, Slot, slot, vacant, with_state, with_table, with_available, slot_at, slot_in, slots_of, pool_of, pool_in, Whole}
-use Rattle.slots.specs.declared.Head.{Head}
+use Rattle.slots.specs.View.{SlotPool, Slot, slot, vacant, with_state, with_table, slot_at, slot_in, slots_of, pool_of, pool_in, Whole}
 use Rattle.slots.specs.declared.ConnectionPoolWorker.{ConnectionPoolWorker}
 
 -- ── The slots ──────────────────────────────────────────────────────────────────────────────────────────────────────────
@@ -59,10 +58,10 @@ module _ (w : ConnectionPoolWorker) where
   put_pool i x g t s = rw (slots_put w.generations w.times w.states i g t s)
 
   -- slot i gets a time and a state
-  pub state_pool : Whole pool → (i t s : ℕ) → i < slot_count
+  pub state_pool : length pool.slots ≡ slot_count → (i t s : ℕ) → i < slot_count
       → pool_of w.head w.ids w.generations (set w.times i t) (set w.states i s) w.available w.waiters
       ≡ with_table pool pool.ids (set pool.slots i (with_state s t (slot_at pool i)))
-  state_pool whole i t s low = rw (slots_set_state w.generations w.times w.states whole.slots i t s low)
+  state_pool long i t s low = rw (slots_set_state w.generations w.times w.states long i t s low)
 
   -- ── What is read ───────────────────────────────────────────────────────────────────────────────────────────────────────
 

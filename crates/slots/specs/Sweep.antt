@@ -1,6 +1,6 @@
 -- A sweep: a loop that takes connections from one end of the available list and closes them. What holds as a turn starts, and that a
 -- turn keeps it.
-use Rattle.std.specs.Prelude.{◌≡◌, refl, List, [], ℕ, ◌+◌, ◌-◌, ◌≤◌, ◌<◌, length}
+use Rattle.std.specs.Prelude.{◌≡◌, refl, [], ℕ, ◌+◌, ◌-◌, ◌<◌, length}
 use Rattle.std.proofs.Common.{sym, ap, subst, ◌∙◌, arith}
 use Rattle.definition.specs.Pool.{slot_count}
 use Rattle.definition.specs.Steps.{Out, Act, ◌>>◌}
@@ -21,17 +21,18 @@ pub record Pops (pop : Act SlotPool) (q : SlotPool) : Type 0 where
   pub quiet : (pop q).records ≡ []
   pub count : (pop q).pool.availables ≡ q.availables - 1
   pub total : (pop q).pool.total ≡ q.total
+  pub serial : (pop q).pool.serial ≡ q.serial
   pub whole : Whole (pop q).pool
   pub prune : CanPrune (pop q).pool
 
 module _ (q : SlotPool) (w : Whole q) (s : CanPrune q) (z : 0 < q.availables) where
   pub front_pops : Pops pop_front q
   unfolding pop_front
-  front_pops = record { quiet = refl; count = refl; total = refl; whole = popped_whole q w s z; prune = popped_prune q s z }
+  front_pops = record { quiet = refl; count = refl; total = refl; serial = refl; whole = popped_whole q w s z; prune = popped_prune q s z }
 
   pub back_pops : Pops pop_back q
   unfolding pop_back
-  back_pops = record { quiet = refl; count = refl; total = refl; whole = back_whole q w; prune = back_prune q s }
+  back_pops = record { quiet = refl; count = refl; total = refl; serial = refl; whole = back_whole q w; prune = back_prune q s }
 
 -- ── And is closed ──────────────────────────────────────────────────────────────────────────────────────────────────────
 
@@ -45,7 +46,8 @@ closed_count reason i other q = refl
 
 -- ── The loop ──
 
--- by `act`, with the outcome x, from the output o₀: as the turn of the pool q starts, with k left, and room for `more` records after them
+-- by `act`, with the outcome x, from the output o₀: as the turn of the pool q starts, with k left, and room for `more` records after them;
+-- that the records' serial and the output's length are those of o₀ is in `told.kept`
 pub record Sweeping (act : ℕ → Act SlotPool) (more : ℕ) (x : Out SlotPool) (o₀ : Records) (k : ℕ) (q : SlotPool) (o : Records) : Type 0 where
   pub told : Going x o₀ (act k q) o
   pub safe : CanPrune q
@@ -63,12 +65,12 @@ sweep_at {act} {more} {x} {o₀} {k} {q} {o} v = subst (λ (j : ℕ). Sweeping a
 
 module _ {act : ℕ → Act SlotPool} {more : ℕ} {x : Out SlotPool} {o₀ : Records} {k : ℕ} {q : SlotPool} {o : Records} (v : Sweeping act more x o₀ k q o) (z : 0 < k) where
   -- what leaving the list asks
-  pub sweep_pops : CanPrune q × (0 < q.availables)
-  sweep_pops = (v.safe, omega (arith, v.count))
+  pub sweep_pops : Whole q × CanPrune q × (0 < q.availables)
+  sweep_pops = (v.whole, v.safe, omega (arith, v.count))
 
   -- a turn: slot i has left q, which is q₁ then
   module _ (pop : Act SlotPool) (leaves : Pops pop q) (i : ℕ) {q₁ : SlotPool} (e : q₁ ≡ (pop q).pool) where
-    sweep_whole : Whole q₁
+    pub sweep_whole : Whole q₁
     sweep_whole = subst (λ (y : SlotPool). Whole y) (sym e) leaves.whole
 
     pub sweep_count : q₁.availables ≡ k - 1
@@ -78,8 +80,9 @@ module _ {act : ℕ → Act SlotPool} {more : ℕ} {x : Out SlotPool} {o₀ : Re
     popped_total = ap (λ (y : SlotPool). y.total) e ∙ leaves.total
 
     -- what closing it asks
-    pub sweep_closes : i < slot_count → CanClose q₁ i × RoomFor 1 o
+    pub sweep_closes : i < slot_count → Whole q₁ × CanClose q₁ i × RoomFor 1 o
     sweep_closes low = (
+      sweep_whole,
       record { slot = low; some = omega (arith, popped_total, v.safe.counts, v.count) },
       (omega (arith, v.room.0), omega (arith, v.room.1)),
     )

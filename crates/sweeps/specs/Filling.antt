@@ -117,8 +117,9 @@ module _ {x : Out SlotPool} {o₀ : Records} {options : Options} (w : Connection
 
   module _ (h : w.head.total_connection_count < options.minimum) where
     -- what a creation asks
-    pub fill_creates : CanCreate (pool_in w) × RoomFor 1 o
+    pub fill_creates : Whole (pool_in w) × CanCreate (pool_in w) × RoomFor 1 o
     fill_creates = (
+      v.whole,
       record {
         spot = vacant_found (pool_in w).ids v.whole.ids (omega (arith, v.held, v.minimum));
         ids = omega (arith, v.ids);

@@ -1,5 +1,5 @@
 -- The two sweeps from the available front: what each call in a turn asks, that a turn keeps what holds, and what the end gives.
-use Rattle.std.specs.Prelude.{◌≡◌, refl, [], ℕ, zero, suc, ◌+◌, ◌-◌, ◌<◌, get_or, Some, None}
+use Rattle.std.specs.Prelude.{◌≡◌, refl, [], ℕ, zero, suc, ◌+◌, ◌-◌, ◌<◌, length, get_or, Some, None}
 use Rattle.std.specs.declared.option.Option.{Option}
 use Rattle.std.proofs.Math.Path.{ap}
 use Rattle.std.proofs.Common.{sym, ◌∙◌, arith}
@@ -25,7 +25,7 @@ pub front_start : (act : ℕ → Act SlotPool) (p : SlotPool) {o : Records} → 
 front_start act p w h = sweep_start act 0 p w h.0 (omega (arith, h.1.0), omega (arith, h.1.1))
 
 front_leaves : {act : ℕ → Act SlotPool} {x : Out SlotPool} {o₀ : Records} {k : ℕ} {q : SlotPool} {o : Records} → Sweeping act 0 x o₀ k q o → 0 < k → Pops pop_front q
-front_leaves {q = q} v z = front_pops q v.whole v.safe (sweep_pops v z).1
+front_leaves {q = q} v z = front_pops q v.whole v.safe (sweep_pops v z).2
 
 -- ── Those that have perished ──
 
@@ -48,8 +48,8 @@ module _ (p : SlotPool) (i : ℕ) (front : i ≡ get_or p.available 0 0) where
 
 module _ {x : Out SlotPool} {o₀ : Records} {k : ℕ} (w : ConnectionPoolWorker) {o : Records} (v : Sweeping prune 0 x o₀ k (pool_in w) o) where
   -- what looking at the front asks
-  pub prune_looks : (0 < slot_count) × (get_or (pool_in w).available 0 0 < slot_count)
-  prune_looks = (omega arith, v.safe.listed 0)
+  pub prune_looks : (length (pool_in w).slots ≡ slot_count) × (0 < slot_count) × (get_or (pool_in w).available 0 0 < slot_count)
+  prune_looks = (v.whole.slots, omega arith, v.safe.listed 0)
 
   -- all are closed
   pub pruned_all : k ≡ 0 → Did x w o₀ o
@@ -64,7 +64,7 @@ module _ {x : Out SlotPool} {o₀ : Records} {k : ℕ} (w : ConnectionPoolWorker
     -- it is not, and has left
     module _ {reason : ClosedReason} {age : ℕ} (why : ◌≡◌ {A = Option (ClosedReason × ℕ)} (Some (reason, age)) (why_at (pool_in w) i)) (z : 0 < k)
         {q₁ : SlotPool} (e : q₁ ≡ (pop_front (pool_in w)).pool) where
-      pub prune_closes : CanClose q₁ i × RoomFor 1 o
+      pub prune_closes : Whole q₁ × CanClose q₁ i × RoomFor 1 o
       prune_closes = sweep_closes v z pop_front (front_leaves v z) i e (omega (arith, front, v.safe.listed 0))
 
       pub prune_turns : {w' : ConnectionPoolWorker} {o' : Records} → Did (close_at reason i age q₁) w' o o' → Sweeping prune 0 x o₀ (k - 1) (pool_in w') o'
@@ -83,7 +83,7 @@ module _ {x : Out SlotPool} {o₀ : Records} {k : ℕ} (w : ConnectionPoolWorker
   closed_all z = going_done w (going_as (ap (λ (j : ℕ). close_front j (pool_in w)) z) v.told)
 
   module _ {i : ℕ} (front : i ≡ get_or (pool_in w).available 0 0) (z : 0 < k) {q₁ : SlotPool} (e : q₁ ≡ (pop_front (pool_in w)).pool) where
-    pub front_closes : CanClose q₁ i × RoomFor 1 o
+    pub front_closes : Whole q₁ × CanClose q₁ i × RoomFor 1 o
     front_closes = sweep_closes v z pop_front (front_leaves v z) i e (omega (arith, front, v.safe.listed 0))
 
     pub front_turns : {w' : ConnectionPoolWorker} {o' : Records} → Did (close_at PoolClosed i 0 q₁) w' o o' → Sweeping close_front 0 x o₀ (k - 1) (pool_in w') o'

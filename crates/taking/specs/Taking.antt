@@ -1,5 +1,5 @@
 -- The sweep from the available back, for a waiter: what each call in a turn asks, that a turn keeps what holds, and what its three ends give.
-use Rattle.std.specs.Prelude.{◌≡◌, refl, Bool, true, false, ℕ, suc, ◌+◌, ◌-◌, ◌<◌, get_or, Some, None}
+use Rattle.std.specs.Prelude.{◌≡◌, refl, Bool, true, false, ℕ, suc, ◌+◌, ◌-◌, ◌<◌, length, get_or, Some, None}
 use Rattle.std.specs.declared.option.Option.{Option}
 use Rattle.std.proofs.Common.{sym, ap, subst, ◌∙◌, arith}
 use Rattle.definition.specs.Words.{when◌then◌else◌}
@@ -16,7 +16,7 @@ use Rattle.slots.specs.Codes.{why_at}
 use Rattle.slots.specs.ActLaws.{is_healthy, is_perished, perished_reason, perished_age}
 use Rattle.slots.specs.Needs.{CanCreate, CanClose, CanShelve, CanPrune, CanTake}
 use Rattle.slots.specs.Slots.{close_at, pop_back, close_perished_at, establish, lend, take_from}
-use Rattle.slots.specs.Sweep.{Sweeping, Pops, back_pops, sweep_start, sweep_at, sweep_pops, sweep_count, sweep_closes, sweep_turns}
+use Rattle.slots.specs.Sweep.{Sweeping, Pops, back_pops, sweep_start, sweep_at, sweep_pops, sweep_whole, sweep_count, sweep_closes, sweep_turns}
 use Rattle.slots.specs.declared.ConnectionPoolWorker.{ConnectionPoolWorker}
 
 -- ── What is left to do, by what is read of the one at the back ──
@@ -78,9 +78,10 @@ closed_safe q reason i other w s low prune = record {
 module _ {w : Waiter} {x : Out SlotPool} {o₀ : Records} {k : ℕ} {q : SlotPool} {o : Records} (v : Taking w x o₀ k q o) where
   -- none is left: one is created
   module _ (z : k ≡ 0) where
-    pub take_creates : CanCreate q × RoomFor 2 o
+    pub take_creates : Whole q × CanCreate q × RoomFor 2 o
     take_creates =
         let s = v.safe in (
+          v.sweep.whole,
           record { spot = s.spot (sym v.sweep.count ∙ z); ids = s.ids; total = s.total; pending = s.pending },
           (omega (arith, v.sweep.room.0), omega (arith, v.sweep.room.1)),
         )
@@ -90,16 +91,16 @@ module _ {w : Waiter} {x : Out SlotPool} {o₀ : Records} {k : ℕ} {q : SlotPoo
     taken_none d = going_then (take_from k w q) v.sweep.told (did_as (ap (λ (j : ℕ). take_from j w q) z) d)
 
   -- what looking at place j asks
-  pub take_looks : (j : ℕ) → j < k → (j < slot_count) × (get_or q.available j 0 < slot_count)
-  take_looks j h = (omega (arith, v.sweep.count, v.safe.prune.fits), v.safe.prune.listed j)
+  pub take_looks : (j : ℕ) → j < k → (length q.slots ≡ slot_count) × (j < slot_count) × (get_or q.available j 0 < slot_count)
+  take_looks j h = (v.sweep.whole.slots, omega (arith, v.sweep.count, v.safe.prune.fits), v.safe.prune.listed j)
 
   module _ (z : 0 < k) where
     -- what the back's leaving asks
-    pub take_pops : CanPrune q × (0 < q.availables)
+    pub take_pops : Whole q × CanPrune q × (0 < q.availables)
     take_pops = sweep_pops v.sweep z
 
     leaves : Pops pop_back q
-    leaves = back_pops q v.sweep.whole v.safe.prune take_pops.1
+    leaves = back_pops q v.sweep.whole v.safe.prune take_pops.2
 
     -- slot i was at the back, and has left
     module _ {i : ℕ} (back : i ≡ get_or q.available (k - 1) 0) (u₁ : ConnectionPoolWorker) (e : pool_in u₁ ≡ (pop_back q).pool) where
@@ -107,8 +108,9 @@ module _ {w : Waiter} {x : Out SlotPool} {o₀ : Records} {k : ℕ} {q : SlotPoo
       slot = omega (arith, back, v.safe.prune.listed (k - 1))
 
       -- it is healthy, and lent
-      pub take_lends : CanShelve (pool_in u₁) i × RoomFor 1 o
+      pub take_lends : Whole (pool_in u₁) × CanShelve (pool_in u₁) i × RoomFor 1 o
       take_lends = (
+        sweep_whole v.sweep z pop_back leaves i e,
         record { slot = slot; spot = omega (arith, sweep_count v.sweep z pop_back leaves i e, v.sweep.count, v.safe.prune.fits) },
         (omega (arith, v.sweep.room.0), omega (arith, v.sweep.room.1)),
       )
@@ -120,7 +122,7 @@ module _ {w : Waiter} {x : Out SlotPool} {o₀ : Records} {k : ℕ} {q : SlotPoo
 
       -- it has perished, and is closed
       module _ {reason : ClosedReason} {age : ℕ} (why : ◌≡◌ {A = Option (ClosedReason × ℕ)} (Some (reason, age)) (why_at q i)) where
-        pub take_closes : CanClose (pool_in u₁) i × RoomFor 1 o
+        pub take_closes : Whole (pool_in u₁) × CanClose (pool_in u₁) i × RoomFor 1 o
         take_closes = sweep_closes v.sweep z pop_back leaves i e slot
 
         pub take_turns : {u : ConnectionPoolWorker} {o' : Records} → Did (close_at reason i age (pool_in u₁)) u o o' → Taking w x o₀ (k - 1) (pool_in u) o'

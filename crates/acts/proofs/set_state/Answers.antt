@@ -7,4 +7,4 @@ pub returns : goal.returns
 unfolding set_state_at
 returns c =
     let w = c.args.worker.now in
-    rw c.from.ensures (state_pool w (worker_whole w (search rules)) c.args.i _ _ c.requires)
+    rw c.from.ensures (state_pool w (worker_whole w (search rules)).slots c.args.i _ _ c.requires)

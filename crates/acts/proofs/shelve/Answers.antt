@@ -11,4 +11,4 @@ unfolding shelve
 returns c =
     let w = c.args.worker.now in
     let k = w.head.available_count in
-    rw c.from.ensures (ap (λ p. with_available p (set w.available k c.args.i) (k + 1)) (state_pool w (worker_whole w (search rules)) c.args.i c.args.since 1 c.requires.slot))
+    rw c.from.ensures (ap (λ p. with_available p (set w.available k c.args.i) (k + 1)) (state_pool w (worker_whole w (search rules)).slots c.args.i c.args.since 1 c.requires.slot))

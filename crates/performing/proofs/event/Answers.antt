@@ -15,7 +15,8 @@ handle-requires c =
 pub service-requires : goal.service-requires
 service-requires c =
     let r = c.requires in
-    serves (pool_in c.args.worker.now) c.args.e c.args.time r.0 r.1 c.args.i r.2 c.handle.ensures r.4 r.3
+    let s = serves (pool_in c.args.worker.now) c.args.e c.args.time r.0 r.1 c.args.i r.2 c.handle.ensures r.4 r.3 in
+    (s.1, s.2)
 
 pub returns-then-is_serviced : goal.returns-then-is_serviced
 unfolding event when◌then◌else◌

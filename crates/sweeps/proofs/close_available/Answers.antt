@@ -11,11 +11,12 @@ pub loop-worker-init : goal.loop-worker-init
 loop-worker-init c = front_start close_front (pool_in c.args.worker.now) (worker_whole c.args.worker.now (search rules)) c.requires
 
 pub pop_front-requires : goal.pop_front-requires
-pop_front-requires c = sweep_pops c.loop-worker.invariant c.loop-worker-test.true
+pop_front-requires c = let r = sweep_pops c.loop-worker.invariant c.loop-worker-test.true in (r.1, r.2)
 
 pub close_connection-requires : goal.close_connection-requires
 close_connection-requires c =
-    front_closes c.loop-worker.worker c.loop-worker.invariant refl c.loop-worker-test.true c.pop_front.ensures
+    let r = front_closes c.loop-worker.worker c.loop-worker.invariant refl c.loop-worker-test.true c.pop_front.ensures in
+    (r.1, r.2)
 
 pub loop-worker-smaller : goal.loop-worker-smaller
 loop-worker-smaller c =

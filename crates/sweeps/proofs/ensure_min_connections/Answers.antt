@@ -14,7 +14,7 @@ pub returns-then-options-worker : goal.returns-then-options-worker
 returns-then-options-worker c = filled_busy c.loop-worker.worker c.loop-worker.invariant c.if-options-worker.true
 
 pub create_pending_connection-requires : goal.create_pending_connection-requires
-create_pending_connection-requires c = fill_creates c.loop-worker.worker c.loop-worker.invariant c.loop-worker-test.true
+create_pending_connection-requires c = let r = fill_creates c.loop-worker.worker c.loop-worker.invariant c.loop-worker-test.true in (r.1, r.2)
 
 pub loop-worker-smaller : goal.loop-worker-smaller
 loop-worker-smaller c = omega (arith, c.loop-worker-test.true, created_total (pool_in c.loop-worker.worker) c.create_pending_connection.ensures)

@@ -10,18 +10,19 @@ pub loop-worker-init : goal.loop-worker-init
 loop-worker-init c = front_start prune (pool_in c.args.worker.now) (worker_whole c.args.worker.now (search rules)) c.requires
 
 pub examine-front-requires : goal.examine-front-requires
-examine-front-requires c = prune_looks c.loop-worker.worker c.loop-worker.invariant
+examine-front-requires c = let r = prune_looks c.loop-worker.worker c.loop-worker.invariant in (r.1, r.2)
 
 pub returns-in_default : goal.returns-in_default
 unfolding remove_perished
 returns-in_default c = pruned_some c.loop-worker.worker c.loop-worker.invariant c.examine-front.ensures.slot (grind arith)
 
 pub pop_front-requires : goal.pop_front-requires
-pop_front-requires c = sweep_pops c.loop-worker.invariant c.loop-worker-test.true
+pop_front-requires c = let r = sweep_pops c.loop-worker.invariant c.loop-worker-test.true in (r.1, r.2)
 
 pub close_connection-requires : goal.close_connection-requires
 close_connection-requires c =
-    prune_closes c.loop-worker.worker c.loop-worker.invariant c.examine-front.ensures.slot {reason = c.in-Some.reason} {age = c.in-Some.age} (grind arith) c.loop-worker-test.true c.pop_front.ensures
+    let r = prune_closes c.loop-worker.worker c.loop-worker.invariant c.examine-front.ensures.slot {reason = c.in-Some.reason} {age = c.in-Some.age} (grind arith) c.loop-worker-test.true c.pop_front.ensures in
+    (r.1, r.2)
 
 pub loop-worker-smaller : goal.loop-worker-smaller
 loop-worker-smaller c =

@@ -8,13 +8,13 @@ pub loop-worker-init : goal.loop-worker-init
 loop-worker-init c = take_start (waiter_of c.args.waiter) (pool_in c.args.worker.now) (worker_whole c.args.worker.now (search rules)) c.requires
 
 pub examine-back-requires : goal.examine-back-requires
-examine-back-requires c = take_looks c.loop-worker.invariant _ (omega (arith, c.loop-worker-test.true))
+examine-back-requires c = let r = take_looks c.loop-worker.invariant _ (omega (arith, c.loop-worker-test.true)) in (r.1, r.2)
 
 pub pop_back-requires : goal.pop_back-requires
-pop_back-requires c = take_pops c.loop-worker.invariant c.loop-worker-test.true
+pop_back-requires c = let r = take_pops c.loop-worker.invariant c.loop-worker-test.true in (r.1, r.2)
 
 pub lend-requires : goal.lend-requires
-lend-requires c = take_lends c.loop-worker.invariant c.loop-worker-test.true c.examine-back.ensures.slot c.pop_back.new.worker c.pop_back.ensures
+lend-requires c = let r = take_lends c.loop-worker.invariant c.loop-worker-test.true c.examine-back.ensures.slot c.pop_back.new.worker c.pop_back.ensures in (r.1, r.2)
 
 pub returns-in_default : goal.returns-in_default
 returns-in_default c =
@@ -22,7 +22,8 @@ returns-in_default c =
 
 pub close_connection-requires : goal.close_connection-requires
 close_connection-requires c =
-    take_closes c.loop-worker.invariant c.loop-worker-test.true c.examine-back.ensures.slot c.pop_back.new.worker c.pop_back.ensures (sym c.in-Some.is ∙ c.examine-back.ensures.why)
+    let r = take_closes c.loop-worker.invariant c.loop-worker-test.true c.examine-back.ensures.slot c.pop_back.new.worker c.pop_back.ensures (sym c.in-Some.is ∙ c.examine-back.ensures.why) in
+    (r.1, r.2)
 
 pub loop-worker-smaller : goal.loop-worker-smaller
 loop-worker-smaller c =
@@ -34,7 +35,7 @@ loop-worker-preserved c =
     take_at (take_turns c.loop-worker.invariant c.loop-worker-test.true c.examine-back.ensures.slot c.pop_back.new.worker c.pop_back.ensures (sym c.in-Some.is ∙ c.examine-back.ensures.why) c.close_connection.ensures)
 
 pub establish-requires : goal.establish-requires
-establish-requires c = take_creates c.loop-worker.invariant (omega (arith, c.loop-worker-test.false))
+establish-requires c = let r = take_creates c.loop-worker.invariant (omega (arith, c.loop-worker-test.false)) in (r.1, r.2)
 
 pub returns : goal.returns
 returns c = taken_none c.loop-worker.invariant (omega (arith, c.loop-worker-test.false)) c.establish.ensures

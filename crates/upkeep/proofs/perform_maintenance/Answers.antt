@@ -2,7 +2,7 @@ use Rattle.std.proofs.Common.{arith}
 use Rattle.slots.specs.DoneLaws.{did_then}
 use Rattle.slots.specs.Slots.{maintenance, remove_perished, ensure_min_connections}
 use Rattle.refinement.proofs.Needs.{can_prune}
-use Rattle.upkeep.specs.Exits.{pruned_fills}
+use Rattle.upkeep.specs.Exits.{fill_asks}
 use Rattle.upkeep.proofs.perform_maintenance.Goals as goal
 
 pub remove_perished_connections-requires : goal.remove_perished_connections-requires
@@ -13,7 +13,7 @@ remove_perished_connections-requires c =
 pub ensure_min_connections-requires : goal.ensure_min_connections-requires
 ensure_min_connections-requires c =
     let r = c.requires in
-    pruned_fills r.0.stands r.3 r.2 r.1 c.remove_perished_connections.ensures
+    fill_asks r.0.stands r.3 r.2 r.1 c.remove_perished_connections.ensures
 
 pub returns : goal.returns
 unfolding maintenance

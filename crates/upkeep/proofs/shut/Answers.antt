@@ -9,7 +9,7 @@ use Rattle.slots.specs.Slots.{close_front, tell_all, enter, shut}
 use Rattle.slots.specs.View.{SlotPool, pool_in}
 use Rattle.refinement.proofs.Needs.{can_prune}
 use Rattle.refinement.specs.Sites.{close_front_generation, told_generation}
-use Rattle.upkeep.specs.Exits.{closed_tells, told_room}
+use Rattle.upkeep.specs.Exits.{tell_asks, last_asks}
 use Rattle.upkeep.proofs.shut.Goals as goal
 
 pub close_available-requires : goal.close_available-requires
@@ -20,13 +20,13 @@ close_available-requires c =
 pub tell_all-requires : goal.tell_all-requires
 tell_all-requires c =
     let r = c.requires in
-    let z = closed_tells r.0.stands r.2 r.1 c.close_available.ensures in
+    let z = tell_asks r.0.stands r.2 r.1 c.close_available.ensures in
     (z.0, (omega (arith, z), omega (arith, z)))
 
 pub emit-requires : goal.emit-requires
 emit-requires c =
     let r = c.requires in
-    (told_room r.0.stands r.2 r.1 c.close_available.ensures Gone c.tell_all.ensures).0
+    (last_asks r.0.stands r.2 r.1 c.close_available.ensures Gone c.tell_all.ensures).0
 
 pub returns : goal.returns
 unfolding shut enter

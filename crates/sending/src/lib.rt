@@ -34,18 +34,6 @@ impl<'a, P: Print> Sink for Sent<'a, P> {
     }
 }
 
-// To nowhere: they are counted.
-#[derive(Clone, Copy)]
-pub struct Counted;
-
-impl Sink for Counted {
-    fn put(&self, before: u64, bytes: &[u8]) -> Result<u64, Failure<'static>> {
-        before
-            .checked_add(bytes.len() as u64)
-            .ok_or(Failure::TooMany)
-    }
-}
-
 // ── What takes a text ──
 
 // How much of a piece was read, and of the output written.

@@ -16,6 +16,7 @@ use records::Records;
 use slots::ConnectionPoolWorker;
 
 // A waiter is told: the reply, or that nobody listens any more, where it was abandoned.
+#[tactic(auto, using(crate::proofs::Laws::tells))]
 pub fn tell(records: &mut Records, waiter: u64, reply: Reply)
     requires { 16 * (records.old.count + 1) ≤ length records.old.out.now }
     ensures { Emits (told reply (waiter_of waiter)) records.old records.new }

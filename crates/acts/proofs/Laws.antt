@@ -13,11 +13,11 @@ use Rattle.records.proofs.Laws.{emits_low}
 use Rattle.slots.specs.View.{waiter_of}
 
 module _ (w : ℕ) (a : Reply) where
-  told_unheard : 2 ≤ w % 4 → told a (waiter_of w) ≡ Replied (w / 4) Unheard
+  pub told_unheard : 2 ≤ w % 4 → told a (waiter_of w) ≡ Replied (w / 4) Unheard
   unfolding told when◌then◌else◌
   told_unheard h = rw (le-leb _ _ h)
 
-  told_heard : w % 4 < 2 → told a (waiter_of w) ≡ Replied (w / 4) a
+  pub told_heard : w % 4 < 2 → told a (waiter_of w) ≡ Replied (w / 4) a
   unfolding told when◌then◌else◌
   told_heard h = rw (lt-leb _ _ h)
 

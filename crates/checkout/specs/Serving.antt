@@ -6,7 +6,7 @@ use Rattle.std.proofs.Math.Bool.{true, false}
 use mathlib.Core.List.{List}
 use Rattle.std.proofs.lemmas.Bool.{lt-leb}
 use Rattle.definition.specs.Words.{when◌then◌else◌, ◌<?◌, ◌≤?◌, ◌=?◌}
-use Rattle.definition.specs.Pool.{is_ready}
+use Rattle.definition.specs.Pool.{queue_length, is_ready}
 use Rattle.definition.specs.Records.{told}
 use Rattle.definition.specs.declared.Reply.TheVariants.{Warmed}
 use Rattle.definition.specs.Steps.{nothing, emit}
@@ -14,7 +14,7 @@ use Rattle.definition.specs.declared.Options.{Options}
 use Rattle.definition.specs.declared.PoolState.{PoolState}
 use Rattle.slots.specs.Order.{shifted}
 use Rattle.slots.specs.OrderLaws.{length_shifted}
-use Rattle.slots.specs.View.{SlotPool, pool_in, waiter_of, with_waiters}
+use Rattle.slots.specs.View.{SlotPool, Whole, pool_in, waiter_of, with_waiters}
 use Rattle.slots.specs.declared.ConnectionPoolWorker.{ConnectionPoolWorker}
 use Rattle.records.specs.Output.{RoomFor, Emits}
 use Rattle.records.specs.declared.Records.{Records}
@@ -58,6 +58,15 @@ low_creates p o r k = (
 )
 
 -- ── The front waiter is served ──
+
+pub dequeue_whole : (p : SlotPool) → Whole p → 0 < p.waitings → p.waitings ≤ queue_length → Whole (dequeue p).pool
+unfolding dequeue
+dequeue_whole p w z h = record {
+  ids = w.ids;
+  slots = w.slots;
+  available = w.available;
+  waiters = length_shifted p.waitings p.waiters z (omega (arith, w.waiters, h)) ∙ w.waiters;
+}
 
 dequeued : (p : SlotPool) (v : ConnectionPoolWorker) {o : Records} → pool_in v ≡ (dequeue p).pool → Did (dequeue p) v o o
 unfolding dequeue

@@ -73,6 +73,9 @@ module _ {act : ℕ → Act SlotPool} {more : ℕ} {x : Out SlotPool} {o₀ : Re
     pub sweep_whole : Whole q₁
     sweep_whole = subst (λ (y : SlotPool). Whole y) (sym e) leaves.whole
 
+    pub sweep_serial : q₁.serial ≡ q.serial
+    sweep_serial = ap (λ (y : SlotPool). y.serial) e ∙ leaves.serial
+
     pub sweep_count : q₁.availables ≡ k - 1
     sweep_count = ap (λ (y : SlotPool). y.availables) e ∙ leaves.count ∙ ap (λ (y : ℕ). y - 1) (sym v.count)
 

@@ -5,7 +5,8 @@ use Rattle.arguments.specs.declared.Asked.{Asked}
 use Rattle.arguments.specs.declared.Said.{Said}
 use Rattle.arguments.specs.declared.Said.TheVariants.{Whole, Open}
 use Rattle.arguments.specs.declared.Wrong.{Wrong}
-use Rattle.arguments.specs.declared.Wrong.TheVariants.{Missing, TooLarge, Unknown}
+use Rattle.arguments.specs.declared.Wrong.TheVariants.{Missing, TooLarge, Unknown, LeftOut}
+use Rattle.arguments.specs.declared.Refused.{Refused}
 use Rattle.spelling.specs.declared.NumberError.{NumberError}
 use Rattle.spelling.specs.declared.NumberError.TheVariants as number
 use Rattle.spelling.specs.Spelling.{most, decimal, number_of, spelt}
@@ -64,23 +65,35 @@ Takes s i r = Word s i r ⊎ Lacks r
 abbrev pub nothing : Said
 nothing = Whole (record { budget = most; is_used = false; file = None })
 
+-- a refusal keeps what was said before
+abbrev pub refusing : Said → Result Said Wrong → Result Said Refused
+refusing s (Ok t) = Ok t
+refusing s (Err e) = Err (record { why = e; said = s })
+
 -- behind good words a word is read, and behind a bad one none
-abbrev pub behind : Result Said Wrong → (i : ℕ) → List ℕ → Result Said Wrong
-behind (Ok s) i w = asked s i w
+abbrev pub behind : Result Said Refused → (i : ℕ) → List ℕ → Result Said Refused
+behind (Ok s) i w = refusing s (asked s i w)
 behind (Err e) i w = Err e
 
 -- all words, the last one first, up to a bad one
-unfoldable pub said : List (List ℕ) → Result Said Wrong
+unfoldable pub said : List (List ℕ) → Result Said Refused
 said [] = Ok nothing
 said (w ∷ l) = behind (said l) (length l + 1) w
 
 -- no number came behind --budget
-abbrev pub closed : Result Said Wrong → Result Asked Wrong
+abbrev pub closed : Result Said Refused → Result Asked Refused
 closed (Ok (Whole a)) = Ok a
-closed (Ok (Open a)) = Err Unknown
+closed (Ok (Open a)) = Err (record { why = LeftOut; said = Open a })
 closed (Err e) = Err e
 
--- what some words ask, or that the argument behind them can't be had
-pub record Reads (r : Result Asked Wrong) : Type 0 where
+-- the argument behind good words could not be had
+pub record Misses (s : Result Said Refused) (r : Result Asked Refused) : Type 0 where
+  pub before : Said
+  pub good : s ≡ Ok before
+  pub why : FillError
+  pub is : r ≡ Err (record { why = Missing why; said = before })
+
+-- what some words ask, or that the argument behind them can't be had, and what they said
+pub record Reads (r : Result Asked Refused) : Type 0 where
   pub words : List (List ℕ)
-  pub are : (r ≡ closed (said words)) ⊎ Lacks r
+  pub are : (r ≡ closed (said words)) ⊎ Misses (said words) r

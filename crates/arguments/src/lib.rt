@@ -15,8 +15,10 @@ pub enum Wrong {
     Missing(FillError),
     // the budget is above 64 bits
     TooLarge,
-    // a word asks nothing, or is left out
+    // a word asks nothing
     Unknown,
+    // the budget's number is left out
+    LeftOut,
 }
 
 impl From<FillError> for Wrong {
@@ -48,10 +50,17 @@ pub struct Asked {
 
 // What the words so far ask, and whether any word may come next.
 #[derive(Clone, Copy)]
-enum Said {
+pub enum Said {
     Whole(Asked),
     // the budget's number comes
     Open(Asked),
+}
+
+// What is wrong, and what the words before it said.
+#[derive(Clone, Copy)]
+pub struct Refused {
+    pub why: Wrong,
+    pub said: Said,
 }
 
 fn budget_of(word: &[u8]) -> Result<u64, Wrong>
@@ -93,7 +102,7 @@ fn take_argument<E: Env>(env: &E, said: Said, i: usize) -> Result<Said, Wrong>
 }
 
 // What all of them ask; without a budget, all frames are taken.
-pub fn read<E: Env>(env: &E) -> Result<Asked, Wrong>
+pub fn read<E: Env>(env: &E) -> Result<Asked, Refused>
     ensures { Reads result }
 {
     let mut said = Said::Whole(Asked {
@@ -102,10 +111,13 @@ pub fn read<E: Env>(env: &E) -> Result<Asked, Wrong>
         file: None,
     });
     for i in 1..standard::arg_count(env) {
-        said = take_argument(env, said, i)?;
+        said = take_argument(env, said, i).map_err(|why| Refused { why, said })?;
     }
     match said {
         Said::Whole(a) => Ok(a),
-        Said::Open(_) => Err(Wrong::Unknown),
+        Said::Open(_) => Err(Refused {
+            why: Wrong::LeftOut,
+            said,
+        }),
     }
 }

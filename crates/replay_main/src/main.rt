@@ -50,7 +50,7 @@ fn tell_usage(rt: &HostRuntime, wrong: Wrong) {
         Wrong::TooLarge => eprintln!(rt;
             "replay_main: the budget is too large: 18446744073709551615 is the largest"
         ),
-        Wrong::Missing(_) | Wrong::Unknown => eprintln!(rt;
+        Wrong::Missing(_) | Wrong::Unknown | Wrong::LeftOut => eprintln!(rt;
             "usage: replay_main [--budget N] [--used] [FILE]"
         ),
     };
@@ -59,7 +59,7 @@ fn tell_usage(rt: &HostRuntime, wrong: Wrong) {
 fn main(rt: HostRuntime) {
     let asked = match arguments::read(&rt) {
         Ok(asked) => asked,
-        Err(wrong) => return tell_usage(&rt, wrong),
+        Err(refused) => return tell_usage(&rt, refused.why),
     };
     match replay(&rt, asked, &mut io::buffer()) {
         Ok(played) => {

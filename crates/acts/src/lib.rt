@@ -2,10 +2,10 @@
 // record down behind those that the event has said before.
 #![tactic(auto)]
 
-ghost use Rattle.std.specs.Prelude.{◌≡◌, ◌+◌, ◌*◌, ◌≤◌, ◌<◌, length};
+ghost use Rattle.std.specs.Prelude.{◌≡◌, ◌<◌};
 ghost use Rattle.definition.specs.Pool.{slot_count, state_no};
 ghost use Rattle.definition.specs.Records.{told};
-ghost use Rattle.records.specs.Output.{RoomFor, Emits};
+ghost use Rattle.records.specs.Output.{Fits, RoomFor, Emits};
 ghost use Rattle.slots.specs.View.{pool_in, waiter_of};
 ghost use Rattle.slots.specs.Done.{Does};
 ghost use Rattle.slots.specs.Needs.{CanCreate, CanClose, CanShelve, CanPrune};
@@ -18,7 +18,7 @@ use slots::ConnectionPoolWorker;
 // A waiter is told: the reply, or that nobody listens any more, where it was abandoned.
 #[tactic(auto, using(crate::proofs::Laws::tells))]
 pub fn tell(records: &mut Records, waiter: u64, reply: Reply)
-    requires { 16 * (records.old.count + 1) ≤ length records.old.out.now }
+    requires { Fits records.old }
     ensures { Emits (told reply (waiter_of waiter)) records.old records.new }
 {
     let id = (waiter / 4 % 4294967296) as u32;

@@ -13,6 +13,10 @@ Room k n l = (16 * (n + k) ≤ length l) × (n + k < 4294967296)
 abbrev pub RoomFor : ℕ → Records → Type 0
 RoomFor k o = Room k o.count o.out.now
 
+-- one record more fits
+abbrev pub Fits : Records → Type 0
+Fits o = 16 * (o.count + 1) ≤ length o.out.now
+
 -- the bytes are those that were lent, as many, and the first record has the serial that it had
 pub record Kept (o o' : Records) : Type 0 where
   pub serial : o'.serial ≡ o.serial

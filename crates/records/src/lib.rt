@@ -1,10 +1,10 @@
 // An event's output: records laid down in lent bytes, one after the other.
 #![tactic(auto)]
 
-ghost use Rattle.std.specs.Prelude.{◌≡◌, ◌+◌, ◌*◌, ◌≤◌, ◌++◌, length, drop};
+ghost use Rattle.std.specs.Prelude.{◌≡◌, ◌≤◌, ◌++◌, length, drop};
 ghost use Rattle.definition.specs.Records.{fields, fields_of};
 ghost use Rattle.definition.specs.Bytes.{record_bytes};
-ghost use Rattle.records.specs.Output.{Emits};
+ghost use Rattle.records.specs.Output.{Fits, Emits};
 ghost use Rattle.records.specs.Numbers.{numbers};
 
 use definition::{RECORD, Record, Reply};
@@ -88,9 +88,9 @@ pub struct Records<'a> {
 }
 
 impl Records<'_> {
-    // One record more, behind the others; its serial follows from how many they are.
+    // One record more, behind the others; its serial follows from how many they are, and wraps: four bytes of the count are enough.
     pub fn emit(&mut self, r: Record)
-        requires { 16 * (self.old.count + 1) ≤ length self.old.out.now }
+        requires { Fits self.old }
         ensures { Emits r self.old self.new }
     {
         let f = Fields::of(r);

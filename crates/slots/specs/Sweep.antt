@@ -17,22 +17,27 @@ use Rattle.slots.specs.ActLaws.{popped_whole, popped_prune, back_whole, back_pru
 
 -- ── One leaves the list ────────────────────────────────────────────────────────────────────────────────────────────────
 
-pub record Pops (pop : Act SlotPool) (q : SlotPool) : Type 0 where
+-- what a turn asks of it
+pub record TurnPops (pop : Act SlotPool) (q : SlotPool) : Type 0 where
   pub quiet : (pop q).records ≡ []
   pub count : (pop q).pool.availables ≡ q.availables - 1
   pub total : (pop q).pool.total ≡ q.total
-  pub serial : (pop q).pool.serial ≡ q.serial
   pub whole : Whole (pop q).pool
   pub prune : CanPrune (pop q).pool
+
+-- and the pool's serial stays, which no turn asks
+pub record Pops (pop : Act SlotPool) (q : SlotPool) : Type 0 where
+  pub turn : TurnPops pop q
+  pub serial : (pop q).pool.serial ≡ q.serial
 
 module _ (q : SlotPool) (w : Whole q) (s : CanPrune q) (z : 0 < q.availables) where
   pub front_pops : Pops pop_front q
   unfolding pop_front
-  front_pops = record { quiet = refl; count = refl; total = refl; serial = refl; whole = popped_whole q w s z; prune = popped_prune q s z }
+  front_pops = record { turn = record { quiet = refl; count = refl; total = refl; whole = popped_whole q w s z; prune = popped_prune q s z }; serial = refl }
 
   pub back_pops : Pops pop_back q
   unfolding pop_back
-  back_pops = record { quiet = refl; count = refl; total = refl; serial = refl; whole = back_whole q w; prune = back_prune q s }
+  back_pops = record { turn = record { quiet = refl; count = refl; total = refl; whole = back_whole q w; prune = back_prune q s }; serial = refl }
 
 -- ── And is closed ──────────────────────────────────────────────────────────────────────────────────────────────────────
 
@@ -70,11 +75,12 @@ module _ {act : ℕ → Act SlotPool} {more : ℕ} {x : Out SlotPool} {o₀ : Re
 
   -- a turn: slot i has left q, which is q₁ then
   module _ (pop : Act SlotPool) (leaves : Pops pop q) (i : ℕ) {q₁ : SlotPool} (e : q₁ ≡ (pop q).pool) where
-    pub sweep_whole : Whole q₁
-    sweep_whole = subst (λ (y : SlotPool). Whole y) (sym e) leaves.whole
-
     pub sweep_serial : q₁.serial ≡ q.serial
     sweep_serial = ap (λ (y : SlotPool). y.serial) e ∙ leaves.serial
+
+  module _ (pop : Act SlotPool) (leaves : TurnPops pop q) (i : ℕ) {q₁ : SlotPool} (e : q₁ ≡ (pop q).pool) where
+    pub sweep_whole : Whole q₁
+    sweep_whole = subst (λ (y : SlotPool). Whole y) (sym e) leaves.whole
 
     pub sweep_count : q₁.availables ≡ k - 1
     sweep_count = ap (λ (y : SlotPool). y.availables) e ∙ leaves.count ∙ ap (λ (y : ℕ). y - 1) (sym v.count)

@@ -65,10 +65,10 @@ module _ {x : Out SlotPool} {o₀ : Records} {k : ℕ} (w : ConnectionPoolWorker
     module _ {reason : ClosedReason} {age : ℕ} (why : ◌≡◌ {A = Option (ClosedReason × ℕ)} (Some (reason, age)) (why_at (pool_in w) i)) (z : 0 < k)
         {q₁ : SlotPool} (e : q₁ ≡ (pop_front (pool_in w)).pool) where
       pub prune_closes : Whole q₁ × CanClose q₁ i × RoomFor 1 o
-      prune_closes = sweep_closes v z pop_front (front_leaves v z) i e (omega (arith, front, v.safe.listed 0))
+      prune_closes = sweep_closes v z pop_front (front_leaves v z).turn i e (omega (arith, front, v.safe.listed 0))
 
       pub prune_turns : {w' : ConnectionPoolWorker} {o' : Records} → Did (close_at reason i age q₁) w' o o' → Sweeping prune 0 x o₀ (k - 1) (pool_in w') o'
-      prune_turns {w'} d = sweep_turns v z pop_front (front_leaves v z) i e reason age (prune_goes (pool_in w) i front k z why) {w = w'} d
+      prune_turns {w'} d = sweep_turns v z pop_front (front_leaves v z).turn i e reason age (prune_goes (pool_in w) i front k z why) {w = w'} d
 
 -- ── All of them ──
 
@@ -84,7 +84,7 @@ module _ {x : Out SlotPool} {o₀ : Records} {k : ℕ} (w : ConnectionPoolWorker
 
   module _ {i : ℕ} (front : i ≡ get_or (pool_in w).available 0 0) (z : 0 < k) {q₁ : SlotPool} (e : q₁ ≡ (pop_front (pool_in w)).pool) where
     pub front_closes : Whole q₁ × CanClose q₁ i × RoomFor 1 o
-    front_closes = sweep_closes v z pop_front (front_leaves v z) i e (omega (arith, front, v.safe.listed 0))
+    front_closes = sweep_closes v z pop_front (front_leaves v z).turn i e (omega (arith, front, v.safe.listed 0))
 
     pub front_turns : {w' : ConnectionPoolWorker} {o' : Records} → Did (close_at PoolClosed i 0 q₁) w' o o' → Sweeping close_front 0 x o₀ (k - 1) (pool_in w') o'
-    front_turns {w'} d = sweep_turns v z pop_front (front_leaves v z) i e PoolClosed 0 (close_goes k (pool_in w) i z front) {w = w'} d
+    front_turns {w'} d = sweep_turns v z pop_front (front_leaves v z).turn i e PoolClosed 0 (close_goes k (pool_in w) i z front) {w = w'} d

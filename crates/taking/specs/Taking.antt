@@ -110,24 +110,24 @@ module _ {w : Waiter} {x : Out SlotPool} {o₀ : Records} {k : ℕ} {q : SlotPoo
       -- it is healthy, and lent
       pub take_lends : Whole (pool_in u₁) × CanShelve (pool_in u₁) i × RoomFor 1 o
       take_lends = (
-        sweep_whole v.sweep z pop_back leaves i e,
-        record { slot = slot; spot = omega (arith, sweep_count v.sweep z pop_back leaves i e, v.sweep.count, v.safe.prune.fits) },
+        sweep_whole v.sweep z pop_back leaves.turn i e,
+        record { slot = slot; spot = omega (arith, sweep_count v.sweep z pop_back leaves.turn i e, v.sweep.count, v.safe.prune.fits) },
         (omega (arith, v.sweep.room.0), omega (arith, v.sweep.room.1)),
       )
 
       pub taken_lent : ◌≡◌ {A = Option (ClosedReason × ℕ)} None (why_at q i) → {u : ConnectionPoolWorker} {o' : Records} → Did (lend w i (pool_in u₁)) u o o' → Did x u o₀ o'
       taken_lent why d =
           going_then (take_from k w q) v.sweep.told
-          (did_as (take_stops k w q i z back why) (did_then pop_back (lend w i) q {v = u₁} (did_quiet u₁ leaves.quiet e) d))
+          (did_as (take_stops k w q i z back why) (did_then pop_back (lend w i) q {v = u₁} (did_quiet u₁ leaves.turn.quiet e) d))
 
       -- it has perished, and is closed
       module _ {reason : ClosedReason} {age : ℕ} (why : ◌≡◌ {A = Option (ClosedReason × ℕ)} (Some (reason, age)) (why_at q i)) where
         pub take_closes : Whole (pool_in u₁) × CanClose (pool_in u₁) i × RoomFor 1 o
-        take_closes = sweep_closes v.sweep z pop_back leaves i e slot
+        take_closes = sweep_closes v.sweep z pop_back leaves.turn i e slot
 
         pub take_turns : {u : ConnectionPoolWorker} {o' : Records} → Did (close_at reason i age (pool_in u₁)) u o o' → Taking w x o₀ (k - 1) (pool_in u) o'
         take_turns {u} d =
             let y : pool_in u ≡ (close_at reason i age (pop_back q).pool).pool = d.done.pool ∙ ap (λ (p : SlotPool). (close_at reason i age p).pool) e in
-            let t = sweep_turns v.sweep z pop_back leaves i e reason age (take_goes k w q i z back why) {w = u} d in
+            let t = sweep_turns v.sweep z pop_back leaves.turn i e reason age (take_goes k w q i z back why) {w = u} d in
             let c = closed_safe q reason i age v.sweep.whole v.safe slot (subst (λ (p : SlotPool). CanPrune p) y t.safe) in
             record { sweep = t; safe = subst (λ (p : SlotPool). CanTake p) (sym y) c }
